@@ -1,0 +1,7 @@
+-- Laws of the calendar, in the order of specs/. Only these files unfold its definitions; callers cite the laws.
+pub mod Gregorian  -- what a date is, and the bounds of its parts
+pub mod Months  -- the month of a day of the year
+pub mod Years  -- the year of a day
+pub mod DayNumber  -- the conversions: inverse, and in the order of the dates
+pub mod Answers  -- what an answer says of a date or a day
+pub mod Easter  -- the table is the computus, and where Easter lies

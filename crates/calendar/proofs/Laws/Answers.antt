@@ -1,0 +1,82 @@
+-- What an answer says, and what the answer is: dates and days that there are, and those that there are not.
+-- Names: F-is gives F where the value exists; F-date and F-day read a value out of F, F-none its absence.
+-- Assumes nothing.
+use mathlib.Core.Path.{_≡_, refl}
+use mathlib.Core.Bool.{Bool, true, false, cond}
+use Prim.Native.Nat.{ℕ, _<_, _≤_}
+use lib.Dec.{ltb}
+use borrow.Author.Tests.{lt-ltb, le-ltb, ltb-true, ltb-false}
+use Rattle.calendar.specs.Gregorian.{isDate}
+use Rattle.calendar.specs.DayNumber.{calendarDays, dayNumber, dayOf, dateAt, dateOf, inCalendar}
+use Rattle.calendar.specs.declared.DayAnswer.{DayAnswer}
+use Rattle.calendar.specs.declared.DayAnswer.the-variants.{Day, NoDay}
+use Rattle.calendar.specs.declared.DateAnswer.{DateAnswer}
+use Rattle.calendar.specs.declared.DateAnswer.the-variants.{Date, NoDate}
+
+-- ---- an answer under a test
+
+pub cond-date : (b : Bool) (m x : ℕ) → cond b (Date m) NoDate ≡ Date x → (b ≡ true) × (x ≡ m)
+cond-date true m x e = (refl, cc)
+cond-date false m x e = (cc, cc)
+
+pub cond-no-date : (b : Bool) (m : ℕ) → cond b (Date m) NoDate ≡ NoDate → b ≡ false
+cond-no-date true m e = cc
+cond-no-date false m e = refl
+
+pub cond-day : (b : Bool) (m n : ℕ) → cond b (Day m) NoDay ≡ Day n → (b ≡ true) × (n ≡ m)
+cond-day true m n e = (refl, cc)
+cond-day false m n e = (cc, cc)
+
+pub cond-no-day : (b : Bool) (m : ℕ) → cond b (Day m) NoDay ≡ NoDay → b ≡ false
+cond-no-day true m e = cc
+cond-no-day false m e = refl
+
+-- ---- dayOf
+
+pub dayOf-is : (x : ℕ) → isDate x ≡ true → dayOf x ≡ Day (dayNumber x)
+unfolding dayOf
+dayOf-is x e = rw e
+
+pub dayOf-day : (x n : ℕ) → dayOf x ≡ Day n → (isDate x ≡ true) × (n ≡ dayNumber x)
+unfolding dayOf
+dayOf-day x n e = cond-day (isDate x) (dayNumber x) n e
+
+pub dayOf-none : (x : ℕ) → dayOf x ≡ NoDay → isDate x ≡ false
+unfolding dayOf
+dayOf-none x e = cond-no-day (isDate x) (dayNumber x) e
+
+-- ---- dateOf
+
+pub dateOf-is : (n : ℕ) → n < calendarDays → dateOf n ≡ Date (dateAt n)
+unfolding dateOf
+dateOf-is n h = rw (lt-ltb n calendarDays h)
+
+pub dateOf-beyond : (n : ℕ) → calendarDays ≤ n → dateOf n ≡ NoDate
+unfolding dateOf
+dateOf-beyond n h = rw (le-ltb n calendarDays h)
+
+pub dateOf-date : (n x : ℕ) → dateOf n ≡ Date x → (n < calendarDays) × (x ≡ dateAt n)
+unfolding dateOf
+dateOf-date n x e =
+    let p = cond-date (ltb n calendarDays) (dateAt n) x e in
+    (ltb-true n calendarDays (p .0), p .1)
+
+pub dateOf-none : (n : ℕ) → dateOf n ≡ NoDate → calendarDays ≤ n
+unfolding dateOf
+dateOf-none n e = ltb-false n calendarDays (cond-no-date (ltb n calendarDays) (dateAt n) e)
+
+-- ---- inCalendar
+
+pub inCalendar-is : (n : ℕ) → n < calendarDays → inCalendar n ≡ Day n
+unfolding inCalendar
+inCalendar-is n h = rw (lt-ltb n calendarDays h)
+
+pub inCalendar-beyond : (n : ℕ) → calendarDays ≤ n → inCalendar n ≡ NoDay
+unfolding inCalendar
+inCalendar-beyond n h = rw (le-ltb n calendarDays h)
+
+pub inCalendar-day : (n m : ℕ) → inCalendar n ≡ Day m → (n < calendarDays) × (m ≡ n)
+unfolding inCalendar
+inCalendar-day n m e =
+    let p = cond-day (ltb n calendarDays) n m e in
+    (ltb-true n calendarDays (p .0), p .1)

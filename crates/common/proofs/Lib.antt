@@ -1,0 +1,3 @@
+-- Laws for every crate.
+pub mod Tests  -- of specs/Tests: what a list of tests that passed, or failed, says
+pub mod Every  -- a test computed at every number below a bound, or at every entry of a table
