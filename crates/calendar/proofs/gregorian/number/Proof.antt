@@ -23,7 +23,7 @@ bounds c =
     let v = parts (c .before .before .before) in (
       rw (c .before .before .year-start .ensures) (yearStart-le _ (omega arith)),
       rw (c .days-before .ensures, c .before .leap-day .ensures)
-      (daysBefore-le _ _ (leapDay-le _) (v .january) (v .december)),
+          (daysBefore-le _ _ (leapDay-le _) (v .january) (v .december)),
     )
 
 sub-year-start : tie.Need-sub-year-start
