@@ -3,8 +3,8 @@
 // any number whatever: an enum says where there is no date.
 pub mod easter;
 pub mod gregorian;
-//pub mod periods;
-//pub mod target;
+pub mod periods;
+pub mod target;
 
 // A date of the calendar.
 pub enum DateAnswer {

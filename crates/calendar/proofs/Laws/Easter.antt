@@ -7,16 +7,18 @@ use Prim.Native.Nat.{ℕ, _+_, _-_, _*_, _%_, _≤_, _<_}
 use native.Mathlib.Omega.{arith}
 use lib.Dec.{leb, eqb}
 use lib.ListN.{getD}
-use borrow.Author.Tests.{leb-true, eqb-true}
+use borrow.Author.Tests.{leb-true, eqb-true, le-leb}
 use denote.Floats.{is-true}
 use Rattle.common.proofs.Every.{entry, below}
 use Rattle.common.proofs.Tests.{and-halves}
 use Rattle.calendar.specs.Gregorian.{year, leap, leapDay, monthLength, isDate, firstYear, lastYear}
-use Rattle.calendar.specs.DayNumber.{yearStart, daysBefore, dayNumber, dayOf}
+use Rattle.calendar.specs.DayNumber.{calendarDays, yearStart, daysBefore, dayNumber, dayOf}
 use Rattle.calendar.specs.Easter.{computus, easterSunday, inTable, easterOf, easterDayOf}
-use Rattle.calendar.specs.declared.DayAnswer.the-variants.{NoDay}
+use Rattle.calendar.specs.declared.DayAnswer.the-variants.{Day, NoDay}
 use Rattle.calendar.specs.declared.DateAnswer.the-variants.{Date, NoDate}
 use Rattle.calendar.proofs.Laws.Answers.{cond-date, cond-no-date, dayOf-is}
+use Rattle.calendar.proofs.Laws.Gregorian.{Valid, date-valid}
+use Rattle.calendar.proofs.Laws.DayNumber.{dayNumber-lt}
 
 -- ---- the table
 
@@ -132,3 +134,16 @@ easterDayOf-date y x e =
 pub easterDayOf-none : (y : ℕ) → easterOf y ≡ NoDate → easterDayOf y ≡ NoDay
 unfolding easterOf easterDayOf
 easterDayOf-none y e = rw (cond-no-date (inTable y) (easterSunday y) e)
+
+-- every date's year has its Easter Sunday, a day of the calendar
+module _ (x : ℕ) (h : isDate x ≡ true) where
+  pub easterDayOf-year : easterDayOf (year x) ≡ Day (dayNumber (easterSunday (year x)))
+  unfolding easterDayOf
+  easterDayOf-year =
+      let v = date-valid x h in
+      rw (le-leb firstYear (year x) (v .from), le-leb (year x) lastYear (v .to))
+
+  pub easterDay-lt : dayNumber (easterSunday (year x)) < calendarDays
+  easterDay-lt =
+      let v = date-valid x h in
+      dayNumber-lt _ (easter-facts (year x) (v .from) (v .to) .is-date)
