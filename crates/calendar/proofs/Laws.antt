@@ -9,3 +9,4 @@ pub mod Target  -- business days; the first one is unique and in the order of th
 pub mod Holidays  -- of five days in a row one is a business day
 pub mod BusinessDays  -- the first, the n-th and the last business day
 pub mod BusinessDates  -- the same for dates; a due date of the range is kept in it
+pub mod Periods  -- calendar days, business days and months after a date

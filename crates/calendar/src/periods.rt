@@ -99,8 +99,9 @@ fn day_of_month(t: u64, d: u64) -> u64
 pub fn months_after(x: u64, n: Months) -> DateAnswer
     ensures { λ r. ⌜ r ≡ monthsAfter n x ⌝ }
 {
-    if gregorian::is_date(x) & (n.0 < MONTHS) {
-        let t = x / 10000 * 12 + (x / 100 % 100 - 1) + n.0;
+    let k = n.0;
+    if gregorian::is_date(x) & (k < MONTHS) {
+        let t = x / 10000 * 12 + (x / 100 % 100 - 1) + k;
         if t < MONTHS {
             return DateAnswer::Date(day_of_month(t, x % 100));
         }

@@ -80,3 +80,7 @@ unfolding inCalendar
 inCalendar-day n m e =
     let p = cond-day (ltb n calendarDays) n m e in
     (ltb-true n calendarDays (p .0), p .1)
+
+pub inCalendar-none : (n : ℕ) → inCalendar n ≡ NoDay → calendarDays ≤ n
+unfolding inCalendar
+inCalendar-none n e = ltb-false n calendarDays (cond-no-day (ltb n calendarDays) n e)

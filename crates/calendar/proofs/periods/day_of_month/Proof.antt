@@ -1,3 +1,6 @@
+use Rattle.calendar.proofs.Laws.Periods.{dayOfMonthCount-day, dayOfMonthCount-last}
+use native.Mathlib.Omega.{arith}
+use mathlib.Core.Path.{_≡_, refl, sym, _∙_, ap}
 use borrow.Author.Needs.{needs}
 use Rattle.calendar.proofs.periods.day_of_month.Statement.{statement}
 use Rattle.calendar.proofs.periods.day_of_month.Tie as tie
@@ -5,41 +8,34 @@ use Rattle.calendar.proofs.periods.day_of_month.Reads as reads
 use Rattle.calendar.proofs.periods.day_of_month.Lts as lts
 use Rattle.calendar.proofs.gregorian.last_of_month.Reads as last-of-month-reads
 
--- src/periods.rt:92:13
 add-m : tie.Need-add-m
 add-m c = search needs
 
--- src/periods.rt:93:9
 last-of-month-requires : tie.Need-last-of-month-requires
 last-of-month-requires c κs = search needs
 
--- src/periods.rt:94:17
 mul-first : tie.Need-mul-first
 mul-first c = search needs
 
--- src/periods.rt:94:29
 mul-first-2 : tie.Need-mul-first-2
 mul-first-2 c = search needs
 
--- src/periods.rt:94:17
 add-first : tie.Need-add-first
 add-first c = search needs
 
--- src/periods.rt:95:20
 add-result : tie.Need-add-result
 add-result c = search needs
 
--- src/periods.rt:95:39
 add-result-2 : tie.Need-add-result-2
 add-result-2 c = search needs
 
--- src/periods.rt:87:1
 returns : tie.Need-returns
-returns c = ?
+returns c = sym (dayOfMonthCount-day _ _ (rw (← c .before .last-of-month .ensures) (c .if1 .taken)))
 
--- src/periods.rt:87:1
 returns-2 : tie.Need-returns-2
-returns-2 c = ?
+returns-2 c =
+    rw (c .before .last-of-month .ensures)
+    (sym (dayOfMonthCount-last _ _ (rw (← c .before .last-of-month .ensures) (omega arith))))
 
 pub day-of-month-spec : {M : Type 1} → statement M
 day-of-month-spec =

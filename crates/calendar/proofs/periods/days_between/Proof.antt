@@ -1,3 +1,7 @@
+use Rattle.calendar.specs.declared.DayAnswer.the-variants.{Day, NoDay}
+use Rattle.calendar.proofs.Laws.Periods.{daysBetween-days, daysBetween-later, daysBetween-no-start, daysBetween-no-end}
+use Rattle.calendar.specs.DayNumber.{dayOf}
+use mathlib.Core.Path.{_≡_, refl, sym, _∙_, ap}
 use borrow.Author.Needs.{needs}
 use Rattle.calendar.proofs.periods.days_between.Statement.{statement}
 use Rattle.calendar.proofs.periods.days_between.Tie as tie
@@ -5,45 +9,41 @@ use Rattle.calendar.proofs.periods.days_between.Reads as reads
 use Rattle.calendar.proofs.periods.days_between.Lts as lts
 use Rattle.calendar.proofs.gregorian.day_number.Reads as day-number-reads
 
--- src/periods.rt:47:32
+start : (c : tie.After-known-told) → dayOf (c .before .before .before .before .args .x) ≡ Day (c .before .from .given .0 .0)
+start c = sym (c .before .before .before .day-number .ensures) ∙ c .before .from .given .1
+
+end : (c : tie.After-known-told2) → dayOf (c .before .before .before .before .before .before .before .before .args .y) ≡ Day (c .before .to .given .0 .0)
+end c = sym (c .before .before .before .day-number2 .ensures) ∙ c .before .to .given .1
+
 day-number-requires : tie.Need-day-number-requires
 day-number-requires c κs = search needs
 
--- src/periods.rt:47:24
 enum-known-from : tie.Need-enum-known-from
 enum-known-from c = search needs
 
--- src/periods.rt:48:9
 enum-told : tie.Need-enum-told
 enum-told c = search needs
 
--- src/periods.rt:48:9
 returns : tie.Need-returns
-returns c = ?
+returns c = sym (daysBetween-no-start _ _ (sym (c .before .before .day-number .ensures) ∙ c .enum-told .given .1))
 
--- src/periods.rt:50:30
 day-number-requires-2 : tie.Need-day-number-requires-2
 day-number-requires-2 c κs = search needs
 
--- src/periods.rt:50:24
 enum-known-to : tie.Need-enum-known-to
 enum-known-to c = search needs
 
--- src/periods.rt:51:9
 enum-told-2 : tie.Need-enum-told-2
 enum-told-2 c = search needs
 
--- src/periods.rt:51:9
 returns-2 : tie.Need-returns-2
-returns-2 c = ?
+returns-2 c = sym (daysBetween-no-end _ _ (sym (c .before .before .day-number2 .ensures) ∙ c .enum-told2 .given .1))
 
--- src/periods.rt:54:9
 returns-3 : tie.Need-returns-3
-returns-3 c = ?
+returns-3 c = sym (daysBetween-days _ _ _ _ (start (c .before .before .before .before .before)) (end (c .before)) (c .if1 .taken))
 
--- src/periods.rt:44:1
 returns-4 : tie.Need-returns-4
-returns-4 c = ?
+returns-4 c = sym (daysBetween-later _ _ _ _ (start (c .before .before .before .before .before)) (end (c .before)) (c .if1 .left))
 
 pub days-between-spec : {M : Type 1} → statement M
 days-between-spec =

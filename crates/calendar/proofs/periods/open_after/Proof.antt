@@ -1,3 +1,12 @@
+use Rattle.calendar.proofs.Laws.BusinessDays.{openAfter-zero, openAfter-more, openAfter-mono-count}
+use Rattle.calendar.proofs.Laws.Answers.{dateOf-beyond, inCalendar-day, inCalendar-none}
+use Rattle.calendar.specs.declared.DayAnswer.the-variants.{Day, NoDay}
+use Rattle.calendar.specs.Target.{firstOpen, openAfter}
+use Rattle.calendar.specs.DayNumber.{calendarDays, dateOf, inCalendar}
+use Prim.Native.Nat.{ℕ, _+_, _-_, _≤_, _<_}
+use native.Mathlib.Omega.{arith}
+use borrow.Author.Needs.{needs}
+use mathlib.Core.Path.{_≡_, refl, sym, _∙_, ap}
 use Rattle.calendar.proofs.periods.open_after.Statement.{statement}
 use Rattle.calendar.proofs.periods.open_after.Tie as tie
 use Rattle.calendar.proofs.periods.open_after.Reads as reads
@@ -6,54 +15,57 @@ use Rattle.calendar.proofs.gregorian.date_of.Reads as date-of-reads
 use Rattle.calendar.proofs.target.first_open.Reads as first-open-reads
 
 abbrev Inv-loop : tie.InvT-loop
-Inv-loop d n at₀ i₀ at i = ?
+Inv-loop d n at₀ i₀ at i = (i ≤ n) × (at < calendarDays) × (openAfter i d ≡ at)
 
 abbrev μ-loop : tie.MeasureT-loop
-μ-loop d n at₀ i₀ at i = ?
+μ-loop d n at₀ i₀ at i = n - i
 
--- src/periods.rt:66:5
 loop-holds : tie.Need-loop-holds Inv-loop μ-loop
-loop-holds c = ?
+loop-holds c = (omega arith, c .pre, openAfter-zero _)
 
--- src/periods.rt:67:55
 add-first-open : tie.Need-add-first-open Inv-loop μ-loop
-add-first-open c = ?
+add-first-open c = omega arith
 
--- src/periods.rt:67:36
 first-open-requires : tie.Need-first-open-requires Inv-loop μ-loop
-first-open-requires c κs = ?
+first-open-requires c κs = search needs
 
--- src/periods.rt:67:28
 enum-known-next : tie.Need-enum-known-next Inv-loop μ-loop
-enum-known-next c = ?
+enum-known-next c = search needs
 
--- src/periods.rt:68:13
 enum-told : tie.Need-enum-told Inv-loop μ-loop
-enum-told c = ?
+enum-told c = search needs
 
--- src/periods.rt:68:13
 returns : tie.Need-returns Inv-loop μ-loop
-returns c = ?
+returns c =
+    let l = c .before .before .before .before .loop in
+    let a = c .before .before .before .before .before .args in
+    let e = openAfter-more (l .i) (a .d) ∙ ap (λ (k : ℕ). firstOpen (k + 1)) (l .inv .2) in
+    let b = inCalendar-none _ (sym (c .before .before .first-open .ensures) ∙ c .enum-told .given .1) in
+    sym (dateOf-beyond _ (omega (arith, e, openAfter-mono-count (l .i + 1) (a .n) (a .d) (omega arith))))
 
--- src/periods.rt:71:9
 add-i : tie.Need-add-i Inv-loop μ-loop
-add-i c = ?
+add-i c = omega arith
 
--- src/periods.rt:66:5
 loop-less : tie.Need-loop-less Inv-loop μ-loop
-loop-less c = ?
+loop-less c = omega arith
 
--- src/periods.rt:66:5
 loop-again : tie.Need-loop-again Inv-loop μ-loop
-loop-again c = ?
+loop-again c =
+    let l = c .before .before .before .before .before .loop in
+    let a = c .before .before .before .before .before .before .args in
+    let p = inCalendar-day _ _ (sym (c .before .before .before .first-open .ensures) ∙ c .before .next .given .1) in
+    let e = openAfter-more (l .i) (a .d) ∙ ap (λ (k : ℕ). firstOpen (k + 1)) (l .inv .2) in
+    (omega arith, omega (arith, p .0, p .1), e ∙ sym (p .1))
 
--- src/periods.rt:73:5
 date-of-requires : tie.Need-date-of-requires Inv-loop μ-loop
-date-of-requires c κs = ?
+date-of-requires c κs = search needs
 
--- src/periods.rt:60:1
 returns-2 : tie.Need-returns-2 Inv-loop μ-loop
-returns-2 c = ?
+returns-2 c =
+    let l = c .before .before .loop in
+    let a = c .before .before .before .args in
+    let e : l .i ≡ a .n = omega arith in
+    c .date-of .ensures ∙ ap dateOf (sym (l .inv .2) ∙ ap (λ (k : ℕ). openAfter k (a .d)) e)
 
 pub open-after-spec : {M : Type 1} → statement M
 open-after-spec =

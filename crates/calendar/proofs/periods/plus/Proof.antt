@@ -1,3 +1,6 @@
+use Rattle.calendar.proofs.Laws.Answers.{dateOf-beyond}
+use native.Mathlib.Omega.{arith}
+use mathlib.Core.Path.{_≡_, refl, sym, _∙_, ap}
 use borrow.Author.Needs.{needs}
 use Rattle.calendar.proofs.periods.plus.Statement.{statement}
 use Rattle.calendar.proofs.periods.plus.Tie as tie
@@ -5,25 +8,20 @@ use Rattle.calendar.proofs.periods.plus.Reads as reads
 use Rattle.calendar.proofs.periods.plus.Lts as lts
 use Rattle.calendar.proofs.gregorian.date_of.Reads as date-of-reads
 
--- src/periods.rt:27:12
 sub-if1 : tie.Need-sub-if1
 sub-if1 c = search needs
 
--- src/periods.rt:28:35
 add-date-of : tie.Need-add-date-of
 add-date-of c = search needs
 
--- src/periods.rt:28:9
 date-of-requires : tie.Need-date-of-requires
 date-of-requires c κs = search needs
 
--- src/periods.rt:28:9
 returns : tie.Need-returns
 returns c = search needs
 
--- src/periods.rt:23:1
 returns-2 : tie.Need-returns-2
-returns-2 c = ?
+returns-2 c = sym (dateOf-beyond _ (omega arith))
 
 pub plus-spec : {M : Type 1} → statement M
 plus-spec = tie.close (tie.spec sub-if1 add-date-of date-of-requires returns returns-2)

@@ -1,0 +1,44 @@
+use Rattle.calendar.specs.declared.DayAnswer.the-variants.{Day, NoDay}
+use Rattle.calendar.proofs.Laws.Periods.{businessDaysAfter-day, businessDaysAfter-none}
+use Rattle.calendar.proofs.Laws.Answers.{dayOf-day}
+use Rattle.calendar.proofs.Laws.DayNumber.{dayNumber-lt}
+use Rattle.calendar.specs.DayNumber.{calendarDays, dayOf}
+use Prim.Native.Nat.{_<_}
+use mathlib.Core.Path.{_≡_, refl, sym, _∙_, ap}
+use borrow.Author.Needs.{needs}
+use Rattle.calendar.proofs.periods.business_days_after.Statement.{statement}
+use Rattle.calendar.proofs.periods.business_days_after.Tie as tie
+use Rattle.calendar.proofs.periods.business_days_after.Reads as reads
+use Rattle.calendar.proofs.periods.business_days_after.Lts as lts
+use Rattle.calendar.proofs.gregorian.day_number.Reads as day-number-reads
+use Rattle.calendar.proofs.periods.open_after.Reads as open-after-reads
+
+-- the day that was answered is the date's
+known : (c : tie.After-known-told) → dayOf (c .before .before .before .before .args .x) ≡ Day (c .before .d .given .0 .0)
+known c = sym (c .before .before .before .day-number .ensures) ∙ c .before .d .given .1
+
+known-lt : (c : tie.After-known-told) → c .before .d .given .0 .0 < calendarDays
+known-lt c = let p = dayOf-day _ _ (known c) in rw (p .1) (dayNumber-lt _ (p .0))
+
+day-number-requires : tie.Need-day-number-requires
+day-number-requires c κs = search needs
+
+enum-known-d : tie.Need-enum-known-d
+enum-known-d c = search needs
+
+open-after-requires : tie.Need-open-after-requires
+open-after-requires c κs = known-lt c
+
+enum-told : tie.Need-enum-told
+enum-told c = search needs
+
+returns : tie.Need-returns
+returns c = c .open-after .ensures ∙ sym (businessDaysAfter-day _ _ _ (known (c .before)))
+
+returns-2 : tie.Need-returns-2
+returns-2 c = sym (businessDaysAfter-none _ _ (sym (c .before .before .day-number .ensures) ∙ c .enum-told .given .1))
+
+pub business-days-after-spec : {M : Type 1} → statement M
+business-days-after-spec =
+    tie.close
+    (tie.spec day-number-requires enum-known-d open-after-requires enum-told returns returns-2)
