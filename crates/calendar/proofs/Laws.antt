@@ -10,3 +10,6 @@ pub mod Holidays  -- of five days in a row one is a business day
 pub mod BusinessDays  -- the first, the n-th and the last business day
 pub mod BusinessDates  -- the same for dates; a due date of the range is kept in it
 pub mod Periods  -- calendar days, business days and months after a date
+pub mod MonthCounts  -- the date some months after another, and how far it lies
+pub mod PeriodEnds  -- every period from a date of the range ends in the calendar, and ends keep the order
+pub mod Promises  -- the promises of specs/Promises, proved

@@ -4,5 +4,4 @@ pub mod DayNumber  -- the twelve counts; a date's day number and back
 pub mod Easter  -- the computus
 pub mod Target  -- business days, and the first, the next and the last one
 pub mod Periods  -- calendar days, business days and months after a date
-
---pub mod Promises  -- what is promised of all of them
+pub mod Promises  -- what is promised of all of them

@@ -1,7 +1,7 @@
 -- Periods. Document 01, "Calendar": n business days after D, n months after D, and calendar days.
 -- A count of calendar days and one of business days meet only in a `Period`, whose end the calendar works out.
 -- Assumes nothing.
-use mathlib.Core.Bool.{Bool, true, false, cond, _&&_}
+use mathlib.Core.Bool.{Bool, false, cond, _&&_}
 use Prim.Native.Nat.{ℕ, _+_, _-_, _*_, _/_, _%_, min}
 use lib.Dec.{ltb, leb}
 use Rattle.calendar.specs.Gregorian.{year, month, dayOfMonth, dateOfParts, leapDay, monthLength, isDate, lastYear}

@@ -13,7 +13,7 @@ use Rattle.calendar.specs.Easter.{easterSunday}
 use Rattle.calendar.specs.declared.DayAnswer.{DayAnswer}
 use Rattle.calendar.specs.declared.DayAnswer.the-variants.{Day, NoDay}
 use Rattle.calendar.specs.declared.DateAnswer.{DateAnswer}
-use Rattle.calendar.specs.declared.DateAnswer.the-variants.{Date, NoDate}
+use Rattle.calendar.specs.declared.DateAnswer.the-variants.{NoDate}
 
 -- ---- business days
 

@@ -1,6 +1,6 @@
 -- A rule for every number below a bound, or every entry of a table, from one test that the checker computes.
 -- To cite: `below`, `entry`. Assumes nothing.
-use mathlib.Core.Path.{_≡_, _∙_, subst, sym}
+use mathlib.Core.Path.{_∙_, subst, sym}
 use mathlib.Core.Bool.{Bool, true, false}
 use mathlib.Core.List.{List, [], _∷_}
 use mathlib.Core.Logic.{⊎-elim}

@@ -3,12 +3,11 @@
 -- Assumes nothing.
 use mathlib.Core.Path.{_≡_, refl}
 use mathlib.Core.Bool.{Bool, true, false, cond}
-use Prim.Native.Nat.{ℕ, _<_, _≤_}
+use Prim.Native.Nat.{ℕ, _+_, _<_, _≤_}
 use lib.Dec.{ltb}
 use borrow.Author.Tests.{lt-ltb, le-ltb, ltb-true, ltb-false}
 use Rattle.calendar.specs.Gregorian.{isDate}
 use Rattle.calendar.specs.DayNumber.{calendarDays, dayNumber, dayOf, dateAt, dateOf, inCalendar}
-use Rattle.calendar.specs.declared.DayAnswer.{DayAnswer}
 use Rattle.calendar.specs.declared.DayAnswer.the-variants.{Day, NoDay}
 use Rattle.calendar.specs.declared.DateAnswer.{DateAnswer}
 use Rattle.calendar.specs.declared.DateAnswer.the-variants.{Date, NoDate}
@@ -30,6 +29,14 @@ cond-day false m n e = (cc, cc)
 pub cond-no-day : (b : Bool) (m : ℕ) → cond b (Day m) NoDay ≡ NoDay → b ≡ false
 cond-no-day true m e = cc
 cond-no-day false m e = refl
+
+-- the answer is a date, not before the date x and at most some days later
+pub record DateAfter (x : ℕ) (answer : DateAnswer) (days : ℕ) : Type 0 where
+  pub date : ℕ
+  pub is : answer ≡ Date date
+  pub is-date : isDate date ≡ true
+  pub from : x ≤ date
+  pub near : dayNumber date ≤ dayNumber x + days
 
 -- ---- dayOf
 
@@ -84,3 +91,20 @@ inCalendar-day n m e =
 pub inCalendar-none : (n : ℕ) → inCalendar n ≡ NoDay → calendarDays ≤ n
 unfolding inCalendar
 inCalendar-none n e = ltb-false n calendarDays (cond-no-day (ltb n calendarDays) n e)
+
+-- ---- an answer for the day of a date
+
+pub record DayOfDate (x k r : ℕ) : Type 0 where
+  pub is-date : isDate x ≡ true
+  pub inside : k < calendarDays
+  pub is : r ≡ dateAt k
+
+from-case : (b : Bool) (k r : ℕ) → cond b (dateOf k) NoDate ≡ Date r → (b ≡ true) × (dateOf k ≡ Date r)
+from-case true k r e = (refl, e)
+from-case false k r e = (cc, cc)
+
+pub day-of-date : (x k r : ℕ) → cond (isDate x) (dateOf k) NoDate ≡ Date r → DayOfDate x k r
+day-of-date x k r e =
+    let p = from-case (isDate x) k r e in
+    let q = dateOf-date k r (p .1) in
+    record { is-date = p .0; inside = q .0; is = q .1 }

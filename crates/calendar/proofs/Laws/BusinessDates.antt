@@ -6,19 +6,17 @@ use Prim.Native.Nat.{ℕ, _+_, _≤_, _<_}
 use native.Mathlib.Omega.{arith}
 use lib.Dec.{ltb}
 use Rattle.common.proofs.Tests.{never}
-use Rattle.calendar.specs.Gregorian.{leap, leapDay, monthLength, isDate, inRange, firstDate, lastDate}
-use Rattle.calendar.specs.DayNumber.{calendarDays, daysBefore, yearStart, dayNumber, dayOf, inCalendar, yearAt, monthAt, dateIn, dateAt, dateOf}
+use Rattle.calendar.specs.Gregorian.{leap, leapDay, monthLength, isDate, inRange, lastDate}
+use Rattle.calendar.specs.DayNumber.{calendarDays, daysBefore, yearStart, dayNumber, dayOf, inCalendar, dateAt, dateOf}
 use Rattle.calendar.specs.Easter.{computus, easterSunday}
-use Rattle.calendar.specs.Target.{closedBy, closed, businessDay, isOpen, First, firstOpen, Last, lastOpenBefore, dated, firstBusinessDay, lastBusinessDayBefore}
-use Rattle.calendar.specs.declared.DayAnswer.{DayAnswer}
+use Rattle.calendar.specs.Target.{closedBy, closed, businessDay, isOpen, firstOpen, lastOpenBefore, dated, firstBusinessDay, lastBusinessDayBefore}
 use Rattle.calendar.specs.declared.DayAnswer.the-variants.{Day, NoDay}
-use Rattle.calendar.specs.declared.DateAnswer.{DateAnswer}
 use Rattle.calendar.specs.declared.DateAnswer.the-variants.{Date, NoDate}
-use Rattle.calendar.proofs.Laws.Gregorian.{InRange, range-facts, in-range}
-use Rattle.calendar.proofs.Laws.DayNumber.{dayNumber-lt, dateAt-date, dateAt-dayNumber, dayNumber-dateAt, dayNumber-mono, dayNumber-mono-le, dayNumber-reflects, dayNumber-reflects-le}
+use Rattle.calendar.proofs.Laws.Gregorian.{range-facts, in-range}
+use Rattle.calendar.proofs.Laws.DayNumber.{dayNumber-lt, dateAt-date, dayNumber-dateAt, dayNumber-mono, dayNumber-mono-le, dayNumber-reflects, dayNumber-reflects-le}
 use Rattle.calendar.proofs.Laws.Answers.{dayOf-day, dayOf-none, dateOf-is}
 use Rattle.calendar.proofs.Laws.Target.{open-date, open-at}
-use Rattle.calendar.proofs.Laws.BusinessDays.{firstOpen-first, firstOpen-lt, firstOpen-near, firstOpen-mono, firstOpen-open, LastNear, lastOpen-exists}
+use Rattle.calendar.proofs.Laws.BusinessDays.{firstOpen-first, firstOpen-lt, lastOpen-exists}
 
 -- ---- dated
 

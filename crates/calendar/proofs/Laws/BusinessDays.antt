@@ -1,18 +1,17 @@
 -- Laws of specs/Target: the first business day on or after a day, the n-th after it, the last one before it.
 -- To cite: `firstOpen-first`, `firstOpen-lt`, `firstOpen-near`, `firstOpen-mono`; `openAfter-more`, `openAfter-from`, `openAfter-near`,
 -- `openAfter-mono`, `openAfter-count`; `lastOpen-last`, `lastOpen-is`, `lastOpen-exists`. Assumes nothing.
-use mathlib.Core.Path.{_≡_, refl, sym, ap, _∙_}
+use mathlib.Core.Path.{_≡_, refl, ap}
 use mathlib.Core.Bool.{Bool, true, false, cond}
 use mathlib.Core.Logic.{⊎-elim}
 use Prim.Native.Nat.{ℕ, zero, suc, _+_, _-_, _*_, _≤_, _<_}
 use native.Mathlib.Nat.{eq-or-lt-of-le}
 use native.Mathlib.Numerals.{add-one}
-use native.Mathlib.Decide.{le-ind, decLe}
+use native.Mathlib.Decide.{le-ind}
 use native.Mathlib.Omega.{arith}
 use Rattle.common.proofs.Tests.{never}
 use Rattle.calendar.specs.DayNumber.{calendarDays}
 use Rattle.calendar.specs.Target.{isOpen, First, seek, firstOpen, openAfter, Last, lastOpenBefore}
-use Rattle.calendar.specs.declared.DayAnswer.{DayAnswer}
 use Rattle.calendar.specs.declared.DayAnswer.the-variants.{Day, NoDay}
 use Rattle.calendar.proofs.Laws.Target.{open-lt, closed-not-last, first-unique, first-here, first-later, first-rest, first-mono}
 use Rattle.calendar.proofs.Laws.Holidays.{first-near}

@@ -2,13 +2,13 @@
 -- To cite: `dayNumber-lt`, `dateAt-date`, `dateAt-dayNumber`, `dayNumber-dateAt` (inverse), `dayNumber-mono`,
 -- `dayNumber-reflects`, `dateAt-mono` (order). Assumes nothing.
 use mathlib.Core.Path.{_≡_, refl, sym, ap, _∙_}
-use mathlib.Core.Bool.{Bool, true, false, cond}
+use mathlib.Core.Bool.{true}
 use mathlib.Core.Logic.{⊎-elim}
-use Prim.Native.Nat.{ℕ, _+_, _-_, _*_, _/_, _%_, _≤_, _<_}
+use Prim.Native.Nat.{ℕ, _+_, _-_, _≤_, _<_}
 use native.Mathlib.Nat.{eq-or-lt-of-le}
 use native.Mathlib.Decide.{decLe}
 use native.Mathlib.Omega.{arith}
-use Rattle.calendar.specs.Gregorian.{year, month, dayOfMonth, dateOfParts, leapDay, monthLength, isDate, firstYear, lastYear}
+use Rattle.calendar.specs.Gregorian.{year, month, dayOfMonth, dateOfParts, leapDay, isDate, firstYear, lastYear}
 use Rattle.calendar.specs.DayNumber.{daysBefore, yearStart, calendarDays, dayNumber, yearAt, monthAt, dateIn, dateAt}
 use Rattle.calendar.proofs.Laws.Gregorian.{Valid, date-valid, valid-date, valid-day-le, leapDay-le, date-parts, year-parts, month-parts, day-parts}
 use Rattle.calendar.proofs.Laws.Months.{MonthOf, monthAt-of, month-unique, month-end, months-apart}
@@ -16,7 +16,7 @@ use Rattle.calendar.proofs.Laws.Years.{YearOf, yearStart-le, yearStart-
 
 -- ---- the day number of a date's parts
 
-pub number : ℕ → ℕ → ℕ → ℕ
+unfoldable pub number : ℕ → ℕ → ℕ → ℕ
 number y m d = yearStart (y - firstYear) + daysBefore (leapDay y) m + (d - 1)
 
 pub dayNumber-parts : (x : ℕ) → dayNumber x ≡ number (year x) (month x) (dayOfMonth x)
@@ -193,3 +193,7 @@ dateAt-mono n m l h =
     let h' : n < calendarDays = omega arith in
     dayNumber-reflects (dateAt n) (dateAt m) (dateAt-date n h') (dateAt-date m h)
     (rw (dayNumber-dateAt n h', dayNumber-dateAt m h) l)
+
+pub dateAt-mono-le : (n m : ℕ) → n ≤ m → m < calendarDays → dateAt n ≤ dateAt m
+dateAt-mono-le n m l h =
+    ⊎-elim (λ (e : n ≡ m). omega (arith, ap dateAt e)) (λ (k : n < m). omega (arith, dateAt-mono n m k h)) (eq-or-lt-of-le l)

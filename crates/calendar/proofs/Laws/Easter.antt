@@ -17,7 +17,7 @@ use Rattle.calendar.specs.Easter.{computus, easterSunday, inTable, easte
 use Rattle.calendar.specs.declared.DayAnswer.the-variants.{Day, NoDay}
 use Rattle.calendar.specs.declared.DateAnswer.the-variants.{Date, NoDate}
 use Rattle.calendar.proofs.Laws.Answers.{cond-date, cond-no-date, dayOf-is}
-use Rattle.calendar.proofs.Laws.Gregorian.{Valid, date-valid}
+use Rattle.calendar.proofs.Laws.Gregorian.{date-valid}
 use Rattle.calendar.proofs.Laws.DayNumber.{dayNumber-lt}
 
 -- ---- the table

@@ -1,12 +1,12 @@
 -- Laws of specs/Gregorian. To cite: `Valid` with `date-valid` and `valid-date` (the tests of a date, by name),
 -- `InRange` with `range-facts`. Assumes nothing.
-use mathlib.Core.Path.{_≡_, refl}
+use mathlib.Core.Path.{_≡_}
 use mathlib.Core.Bool.{Bool, true, false, cond, _&&_, _||_}
-use Prim.Native.Nat.{ℕ, _+_, _*_, _/_, _%_, _≤_, _<_}
+use Prim.Native.Nat.{ℕ, _+_, _≤_}
 use native.Mathlib.Omega.{arith}
 use lib.Dec.{leb, eqb, lit≤}
 use borrow.Author.Tests.{leb-true, le-leb}
-use Rattle.common.proofs.Tests.{and-halves, and-true}
+use Rattle.common.proofs.Tests.{and-halves}
 use Rattle.calendar.specs.Gregorian.{year, month, dayOfMonth, dateOfParts, leap, leapDay, monthLength, isDate, inRange, firstYear, lastYear, firstDate, lastDate}
 
 -- ---- leapDay, monthLength

@@ -1,6 +1,6 @@
 -- Of any five days in a row one is a business day. The closing days of all years stand in one rising sequence, three of
 -- which are never within five days; the weekend is two days of seven. To cite: `first-near`. Assumes nothing.
-use mathlib.Core.Path.{_≡_, refl, ap}
+use mathlib.Core.Path.{_≡_, ap}
 use mathlib.Core.Bool.{Bool, true, false, not, _&&_}
 use mathlib.Core.Logic.{_⊎_, inl, inr, ⊎-elim}
 use mathlib.Core.List.{List, [], _∷_}
@@ -12,7 +12,6 @@ use lib.Dec.{leb, ltb, eqb}
 use lib.ListN.{getD}
 use borrow.Author.Tests.{leb-true, ltb-true, eqb-true}
 use denote.Floats.{is-true}
-use Rattle.common.specs.Tests.{anyOf}
 use Rattle.common.proofs.Every.{below}
 use Rattle.common.proofs.Tests.{and-halves, not-false, anyOf-cases}
 use Rattle.calendar.specs.Gregorian.{leap, leapDay, monthDay, dateOfParts, firstYear}
@@ -20,9 +19,8 @@ use Rattle.calendar.specs.DayNumber.{calendarDays, daysBefore, yearStart
 use Rattle.calendar.specs.Easter.{computus, easterSunday}
 use Rattle.calendar.specs.Target.{weekday, closedBy, isOpen, First}
 use Rattle.calendar.proofs.Laws.Gregorian.{valid-day-le}
-use Rattle.calendar.proofs.Laws.Years.{YearOf, yearAt-of}
-use Rattle.calendar.proofs.Laws.DayNumber.{PartsOf, monthOfDay, dayOfDay, parts-of}
-use Rattle.calendar.proofs.Laws.Easter.{EasterFacts, easter-facts}
+use Rattle.calendar.proofs.Laws.Years.{yearAt-of}
+use Rattle.calendar.proofs.Laws.DayNumber.{monthOfDay, dayOfDay, parts-of}
 use Rattle.calendar.proofs.Laws.Target.{open-tests}
 
 -- ---- the sequence of closing days

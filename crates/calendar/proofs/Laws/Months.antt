@@ -124,12 +124,24 @@ months-apart l m m' hl h a b =
     let e' : m' - 1 + 1 ≡ m' = omega arith in
     rw (e, e') at (months-apart' l hl (m - 1) (m' - 1) (omega arith) (omega arith))
 
--- a month starts at most 31 days after the one before
-step? : ℕ → ℕ → Bool
-step? l m = leb (daysBefore l (m + 1 + 1)) (daysBefore l (m + 1) + 31)
+-- a month starts where the one before ends; m counts from 0
+next? : ℕ → ℕ → Bool
+next? l m = eqb (daysBefore l (m + 1 + 1)) (daysBefore l (m + 1) + monthLength l (m + 1))
 
-month-step' : (l : ℕ) → l ≤ 1 → (m : ℕ) → m < 11 → daysBefore l (m + 1 + 1) ≤ daysBefore l (m + 1) + 31
-unfolding step? daysBefore
-month-step' =
-    both-years (λ (l : ℕ). (m : ℕ) → m < 11 → daysBefore l (m + 1 + 1) ≤ daysBefore l (m + 1) + 31)
-    (λ m h. leb→le _ _ (below (step? 0) 11 tt m h)) (λ m h. leb→le _ _ (below (step? 1) 11 tt m h))
+month-next' : (l : ℕ) → l ≤ 1 → (m : ℕ) → m < 11 → daysBefore l (m + 1 + 1) ≡ daysBefore l (m + 1) + monthLength l (m + 1)
+unfolding next? daysBefore monthLength
+month-next' =
+    both-years (λ (l : ℕ). (m : ℕ) → m < 11 → daysBefore l (m + 1 + 1) ≡ daysBefore l (m + 1) + monthLength l (m + 1))
+    (λ m h. eqb-true _ _ (is-true _ (below (next? 0) 11 tt m h))) (λ m h. eqb-true _ _ (is-true _ (below (next? 1) 11 tt m h)))
+
+pub month-next : (l m : ℕ) → l ≤ 1 → m < 11 → daysBefore l (m + 1 + 1) ≡ daysBefore l (m + 1) + monthLength l (m + 1)
+month-next l m hl h = month-next' l hl m h
+
+-- January starts the year, and December ends it
+pub month-first : (l : ℕ) → daysBefore l 1 ≡ 0
+unfolding daysBefore
+month-first l = refl
+
+pub month-last : (l : ℕ) → l ≤ 1 → daysBefore l 12 + monthLength l 12 ≡ 365 + l
+unfolding daysBefore monthLength
+month-last = both-years (λ (l : ℕ). daysBefore l 12 + monthLength l 12 ≡ 365 + l) refl refl

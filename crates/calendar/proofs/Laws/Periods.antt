@@ -1,30 +1,27 @@
 -- Laws of specs/Periods: what the answers are.
 -- To cite: the laws named F-day and F-none (from a date that there is, or is not), `monthsAfter-is`, `periodEnd-is`. Assumes nothing.
-use mathlib.Core.Path.{_≡_, refl, sym, ap, _∙_}
+use mathlib.Core.Path.{_≡_, refl, sym, _∙_}
 use mathlib.Core.Bool.{Bool, true, false, cond, _&&_}
-use mathlib.Core.Logic.{⊎-elim}
-use Prim.Native.Nat.{ℕ, zero, suc, _+_, _-_, _*_, _/_, _%_, min, _≤_, _<_}
+use Prim.Native.Nat.{ℕ, _+_, _-_, _*_, _/_, _%_, _≤_, _<_}
 use native.Mathlib.Decide.{decLe}
 use native.Mathlib.Omega.{arith}
 use lib.Dec.{leb, ltb}
-use borrow.Author.Tests.{le-leb, lt-leb, lt-ltb, le-ltb}
+use borrow.Author.Tests.{le-leb, lt-leb, lt-ltb, le-ltb, ltb-true}
 use Rattle.common.proofs.Tests.{and-halves}
-use Rattle.calendar.specs.Gregorian.{year, month, dayOfMonth, dateOfParts, leapDay, monthLength, isDate, inRange, firstYear, lastYear, lastDate}
-use Rattle.calendar.specs.DayNumber.{calendarDays, dayNumber, dayOf, dateAt, dateOf}
+use Rattle.calendar.specs.Gregorian.{year, month, dayOfMonth, dateOfParts, leapDay, monthLength, isDate, lastYear}
+use Rattle.calendar.specs.DayNumber.{dayNumber, dayOf, dateOf}
 use Rattle.calendar.specs.Target.{openAfter}
-use Rattle.calendar.specs.Periods.{daysAfter, daysBetween, businessDaysAfter, monthCount, dayOfMonthCount, monthsAfter, andThen, periodEnd}
+use Rattle.calendar.specs.Periods.{daysAfter, daysBetween, businessDaysAfter, monthCount, dayOfMonthCount, monthsAfter, periodEnd}
 use Rattle.calendar.specs.declared.CalendarDays.{CalendarDays}
 use Rattle.calendar.specs.declared.BusinessDays.{BusinessDays}
 use Rattle.calendar.specs.declared.Months.{Months}
 use Rattle.calendar.specs.declared.Period.{Period}
-use Rattle.calendar.specs.declared.DayAnswer.{DayAnswer}
 use Rattle.calendar.specs.declared.DayAnswer.the-variants.{Day, NoDay}
-use Rattle.calendar.specs.declared.DateAnswer.{DateAnswer}
 use Rattle.calendar.specs.declared.DateAnswer.the-variants.{Date, NoDate}
 use Rattle.calendar.specs.declared.DaysAnswer.{DaysAnswer}
 use Rattle.calendar.specs.declared.DaysAnswer.the-variants.{Days, NoDays}
 use Rattle.calendar.proofs.Laws.DayNumber.{dayNumber-mono, dayNumber-mono-le}
-use Rattle.calendar.proofs.Laws.Answers.{dayOf-day, dayOf-none}
+use Rattle.calendar.proofs.Laws.Answers.{cond-date, dayOf-day, dayOf-none}
 
 -- ---- daysAfter
 
@@ -107,6 +104,19 @@ module _ (n : Months) (x : ℕ) where
   pub monthsAfter-none : isDate x ≡ false → monthsAfter n x ≡ NoDate
   unfolding monthsAfter
   monthsAfter-none e = rw e
+
+-- what an answer says
+pub record MonthsDate (n : Months) (x r : ℕ) : Type 0 where
+  pub is-date : isDate x ≡ true
+  pub inside : monthCount (n .0) x < (lastYear + 1) * 12
+  pub is : r ≡ dayOfMonthCount (monthCount (n .0) x) (dayOfMonth x)
+
+pub monthsAfter-date : (n : Months) (x r : ℕ) → monthsAfter n x ≡ Date r → MonthsDate n x r
+unfolding monthsAfter
+monthsAfter-date n x r e =
+    let p = cond-date (isDate x && ltb (monthCount (n .0) x) ((lastYear + 1) * 12)) _ r e in
+    let q = and-halves (isDate x) (p .0) in
+    record { is-date = q .0; inside = ltb-true _ _ (q .1); is = p .1 }
 
 pub monthCount-is : (n x : ℕ) → monthCount n x ≡ year x * 12 + (month x - 1) + n
 unfolding monthCount

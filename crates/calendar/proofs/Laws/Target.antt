@@ -1,15 +1,15 @@
 -- Laws of specs/Target: business days, and the first one on or after a day.
 -- To cite: `open-date` (a day is open when its date is a business day), `open-lt`, `first-unique`. Assumes nothing.
-use mathlib.Core.Path.{_≡_, refl, sym, ap, _∙_}
-use mathlib.Core.Bool.{Bool, true, false, not, cond, _&&_}
+use mathlib.Core.Path.{_≡_, refl, ap, _∙_}
+use mathlib.Core.Bool.{true, false, not}
 use mathlib.Core.Logic.{⊎-elim}
-use Prim.Native.Nat.{ℕ, zero, suc, _+_, _≤_, _<_}
+use Prim.Native.Nat.{ℕ, _+_, _≤_, _<_}
 use native.Mathlib.Nat.{eq-or-lt-of-le}
 use native.Mathlib.Omega.{arith}
 use lib.Dec.{ltb}
 use borrow.Author.Tests.{lt-ltb, le-ltb, ltb-true}
-use Rattle.common.proofs.Tests.{never, and-halves, false-unless}
-use Rattle.calendar.specs.Gregorian.{year, monthDay, leap, leapDay, monthLength, isDate, firstYear}
+use Rattle.common.proofs.Tests.{never, and-halves}
+use Rattle.calendar.specs.Gregorian.{monthDay, leap, leapDay, monthLength, isDate, firstYear}
 use Rattle.calendar.specs.DayNumber.{calendarDays, daysBefore, yearStart, dayNumber, yearAt, monthAt, dateIn, dateAt}
 use Rattle.calendar.specs.Easter.{computus, easterSunday}
 use Rattle.calendar.specs.Target.{closedBy, closed, businessDay, isOpen, First}

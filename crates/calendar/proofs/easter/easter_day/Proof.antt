@@ -3,10 +3,6 @@ use mathlib.Core.Path.{sym, _∙_}
 use borrow.Author.Needs.{needs}
 use Rattle.calendar.proofs.easter.easter_day.Statement.{statement}
 use Rattle.calendar.proofs.easter.easter_day.Tie as tie
-use Rattle.calendar.proofs.easter.easter_day.Reads as reads
-use Rattle.calendar.proofs.easter.easter_day.Lts as lts
-use Rattle.calendar.proofs.easter.easter_sunday.Reads as easter-sunday-reads
-use Rattle.calendar.proofs.gregorian.day_number.Reads as day-number-reads
 
 easter-sunday-requires : tie.Need-easter-sunday-requires
 easter-sunday-requires c κs = search needs

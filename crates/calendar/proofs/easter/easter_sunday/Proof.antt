@@ -2,13 +2,10 @@ use mathlib.Core.Path.{sym}
 use Rattle.calendar.proofs.Laws.Easter.{table-small, table-years, easterOf-is}
 use Rattle.calendar.specs.Easter.{easterOf}
 use Rattle.calendar.specs.Gregorian.{firstYear, lastYear}
-use borrow.Author.Needs.{needs}
 use Prim.Native.Nat.{_≤_}
 use native.Mathlib.Omega.{arith}
 use Rattle.calendar.proofs.easter.easter_sunday.Statement.{statement}
 use Rattle.calendar.proofs.easter.easter_sunday.Tie as tie
-use Rattle.calendar.proofs.easter.easter_sunday.Reads as reads
-use Rattle.calendar.proofs.easter.easter_sunday.Lts as lts
 
 years : (c : tie.Then1) → firstYear ≤ c .before .args .y × c .before .args .y ≤ lastYear
 years c = table-years (c .before .args .y) (c .if1 .taken)

@@ -5,11 +5,6 @@ use native.Mathlib.Omega.{arith}
 use borrow.Author.Needs.{needs}
 use Rattle.calendar.proofs.gregorian.date_at.Statement.{statement}
 use Rattle.calendar.proofs.gregorian.date_at.Tie as tie
-use Rattle.calendar.proofs.gregorian.date_at.Reads as reads
-use Rattle.calendar.proofs.gregorian.date_at.Lts as lts
-use Rattle.calendar.proofs.gregorian.date_in.Reads as date-in-reads
-use Rattle.calendar.proofs.gregorian.year_at.Reads as year-at-reads
-use Rattle.calendar.proofs.gregorian.year_start.Reads as year-start-reads
 
 -- the year that was found is that of the day
 found : (c : tie.After-year-at) → YearOf (c .before .args .n) (c .year-at .result)

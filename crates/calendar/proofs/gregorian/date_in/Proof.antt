@@ -5,11 +5,6 @@ use native.Mathlib.Omega.{arith}
 use borrow.Author.Needs.{needs}
 use Rattle.calendar.proofs.gregorian.date_in.Statement.{statement}
 use Rattle.calendar.proofs.gregorian.date_in.Tie as tie
-use Rattle.calendar.proofs.gregorian.date_in.Reads as reads
-use Rattle.calendar.proofs.gregorian.date_in.Lts as lts
-use Rattle.calendar.proofs.gregorian.days_before.Reads as days-before-reads
-use Rattle.calendar.proofs.gregorian.leap_day.Reads as leap-day-reads
-use Rattle.calendar.proofs.gregorian.month_at.Reads as month-at-reads
 
 -- the month that was found is that of the day
 found : (c : tie.After-month-at) → MonthOf (c .before .leap-day .result) (c .before .before .args .r) (c .month-at .result)

@@ -1,11 +1,8 @@
 use Rattle.calendar.specs.DayNumber.{dateOf}
-use borrow.Author.Tests.{lt-ltb, le-ltb, le-leb, lt-leb, eq-eqb, ne-eqb}
+use borrow.Author.Tests.{lt-ltb, le-ltb}
 use borrow.Author.Needs.{needs}
 use Rattle.calendar.proofs.gregorian.date_of.Statement.{statement}
 use Rattle.calendar.proofs.gregorian.date_of.Tie as tie
-use Rattle.calendar.proofs.gregorian.date_of.Reads as reads
-use Rattle.calendar.proofs.gregorian.date_of.Lts as lts
-use Rattle.calendar.proofs.gregorian.date_at.Reads as date-at-reads
 
 date-at-requires : tie.Need-date-at-requires
 date-at-requires c κs = search needs

@@ -3,10 +3,6 @@ use mathlib.Core.Path.{sym, _∙_}
 use borrow.Author.Needs.{needs}
 use Rattle.calendar.proofs.gregorian.day_number.Statement.{statement}
 use Rattle.calendar.proofs.gregorian.day_number.Tie as tie
-use Rattle.calendar.proofs.gregorian.day_number.Reads as reads
-use Rattle.calendar.proofs.gregorian.day_number.Lts as lts
-use Rattle.calendar.proofs.gregorian.is_date.Reads as is-date-reads
-use Rattle.calendar.proofs.gregorian.number.Reads as number-reads
 
 is-date-requires : tie.Need-is-date-requires
 is-date-requires c κs = search needs

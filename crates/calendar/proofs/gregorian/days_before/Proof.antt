@@ -1,13 +1,11 @@
 use Prim.Native.Nat.{_-_}
 use native.Mathlib.Omega.{arith}
-use borrow.Author.Tests.{lt-ltb, le-ltb, le-leb, lt-leb, eq-eqb, ne-eqb}
+use borrow.Author.Tests.{lt-ltb, le-ltb}
 use Rattle.calendar.proofs.Laws.Months.{counts-le}
 use Rattle.calendar.specs.DayNumber.{daysBefore}
 use borrow.Author.Needs.{needs}
 use Rattle.calendar.proofs.gregorian.days_before.Statement.{statement}
 use Rattle.calendar.proofs.gregorian.days_before.Tie as tie
-use Rattle.calendar.proofs.gregorian.days_before.Reads as reads
-use Rattle.calendar.proofs.gregorian.days_before.Lts as lts
 
 sub-b : tie.Need-sub-b
 sub-b c = search needs

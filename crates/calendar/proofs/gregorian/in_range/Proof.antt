@@ -2,9 +2,6 @@ use Rattle.calendar.specs.Gregorian.{inRange}
 use borrow.Author.Needs.{needs}
 use Rattle.calendar.proofs.gregorian.in_range.Statement.{statement}
 use Rattle.calendar.proofs.gregorian.in_range.Tie as tie
-use Rattle.calendar.proofs.gregorian.in_range.Reads as reads
-use Rattle.calendar.proofs.gregorian.in_range.Lts as lts
-use Rattle.calendar.proofs.gregorian.is_date.Reads as is-date-reads
 
 is-date-requires : tie.Need-is-date-requires
 is-date-requires c κs = search needs

@@ -2,9 +2,6 @@ use Rattle.calendar.specs.Gregorian.{isDate}
 use borrow.Author.Needs.{needs}
 use Rattle.calendar.proofs.gregorian.is_date.Statement.{statement}
 use Rattle.calendar.proofs.gregorian.is_date.Tie as tie
-use Rattle.calendar.proofs.gregorian.is_date.Reads as reads
-use Rattle.calendar.proofs.gregorian.is_date.Lts as lts
-use Rattle.calendar.proofs.gregorian.last_of_month.Reads as last-of-month-reads
 
 last-of-month-requires : tie.Need-last-of-month-requires
 last-of-month-requires c κs = search needs

@@ -2,8 +2,6 @@ use borrow.Author.Needs.{needs}
 use Rattle.calendar.specs.Gregorian.{leap}
 use Rattle.calendar.proofs.gregorian.is_leap.Statement.{statement}
 use Rattle.calendar.proofs.gregorian.is_leap.Tie as tie
-use Rattle.calendar.proofs.gregorian.is_leap.Reads as reads
-use Rattle.calendar.proofs.gregorian.is_leap.Lts as lts
 
 returns : tie.Need-returns
 unfolding leap

@@ -2,10 +2,6 @@ use Rattle.calendar.proofs.Laws.Gregorian.{leapDay-le}
 use borrow.Author.Needs.{needs}
 use Rattle.calendar.proofs.gregorian.last_of_month.Statement.{statement}
 use Rattle.calendar.proofs.gregorian.last_of_month.Tie as tie
-use Rattle.calendar.proofs.gregorian.last_of_month.Reads as reads
-use Rattle.calendar.proofs.gregorian.last_of_month.Lts as lts
-use Rattle.calendar.proofs.gregorian.leap_day.Reads as leap-day-reads
-use Rattle.calendar.proofs.gregorian.month_length.Reads as month-length-reads
 
 leap-day-requires : tie.Need-leap-day-requires
 leap-day-requires c κs = search needs

@@ -2,9 +2,6 @@ use Rattle.calendar.specs.Gregorian.{leapDay}
 use borrow.Author.Needs.{needs}
 use Rattle.calendar.proofs.gregorian.leap_day.Statement.{statement}
 use Rattle.calendar.proofs.gregorian.leap_day.Tie as tie
-use Rattle.calendar.proofs.gregorian.leap_day.Reads as reads
-use Rattle.calendar.proofs.gregorian.leap_day.Lts as lts
-use Rattle.calendar.proofs.gregorian.is_leap.Reads as is-leap-reads
 
 is-leap-requires : tie.Need-is-leap-requires
 is-leap-requires c κs = search needs

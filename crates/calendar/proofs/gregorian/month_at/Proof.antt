@@ -1,11 +1,8 @@
 use Rattle.calendar.specs.DayNumber.{monthAt}
-use borrow.Author.Tests.{lt-ltb, le-ltb, le-leb, lt-leb, eq-eqb, ne-eqb}
+use borrow.Author.Tests.{lt-ltb, le-ltb, le-leb, lt-leb}
 use borrow.Author.Needs.{needs}
 use Rattle.calendar.proofs.gregorian.month_at.Statement.{statement}
 use Rattle.calendar.proofs.gregorian.month_at.Tie as tie
-use Rattle.calendar.proofs.gregorian.month_at.Reads as reads
-use Rattle.calendar.proofs.gregorian.month_at.Lts as lts
-use Rattle.calendar.proofs.gregorian.days_before.Reads as days-before-reads
 
 add-result : tie.Need-add-result
 add-result c = search needs

@@ -1,10 +1,8 @@
-use borrow.Author.Tests.{lt-ltb, le-ltb, le-leb, lt-leb, eq-eqb, ne-eqb}
+use borrow.Author.Tests.{eq-eqb, ne-eqb}
 use Rattle.calendar.specs.Gregorian.{monthLength}
 use borrow.Author.Needs.{needs}
 use Rattle.calendar.proofs.gregorian.month_length.Statement.{statement}
 use Rattle.calendar.proofs.gregorian.month_length.Tie as tie
-use Rattle.calendar.proofs.gregorian.month_length.Reads as reads
-use Rattle.calendar.proofs.gregorian.month_length.Lts as lts
 
 add-result : tie.Need-add-result
 add-result c = search needs

@@ -8,11 +8,6 @@ use native.Mathlib.Omega.{arith}
 use borrow.Author.Needs.{needs}
 use Rattle.calendar.proofs.gregorian.number.Statement.{statement}
 use Rattle.calendar.proofs.gregorian.number.Tie as tie
-use Rattle.calendar.proofs.gregorian.number.Reads as reads
-use Rattle.calendar.proofs.gregorian.number.Lts as lts
-use Rattle.calendar.proofs.gregorian.days_before.Reads as days-before-reads
-use Rattle.calendar.proofs.gregorian.leap_day.Reads as leap-day-reads
-use Rattle.calendar.proofs.gregorian.year_start.Reads as year-start-reads
 
 -- the date's parts are within their limits
 parts : (c : tie.Start) → Valid (year (c .args .x)) (month (c .args .x)) (dayOfMonth (c .args .x))

@@ -1,11 +1,8 @@
 use Rattle.calendar.specs.DayNumber.{yearAt}
-use borrow.Author.Tests.{lt-ltb, le-ltb, le-leb, lt-leb, eq-eqb, ne-eqb}
+use borrow.Author.Tests.{le-leb, lt-leb}
 use borrow.Author.Needs.{needs}
 use Rattle.calendar.proofs.gregorian.year_at.Statement.{statement}
 use Rattle.calendar.proofs.gregorian.year_at.Tie as tie
-use Rattle.calendar.proofs.gregorian.year_at.Reads as reads
-use Rattle.calendar.proofs.gregorian.year_at.Lts as lts
-use Rattle.calendar.proofs.gregorian.year_start.Reads as year-start-reads
 
 add-year-start : tie.Need-add-year-start
 add-year-start c = search needs

@@ -3,8 +3,6 @@ use Rattle.calendar.specs.DayNumber.{yearStart}
 use borrow.Author.Needs.{needs}
 use Rattle.calendar.proofs.gregorian.year_start.Statement.{statement}
 use Rattle.calendar.proofs.gregorian.year_start.Tie as tie
-use Rattle.calendar.proofs.gregorian.year_start.Reads as reads
-use Rattle.calendar.proofs.gregorian.year_start.Lts as lts
 
 mul-result : tie.Need-mul-result
 mul-result c = search needs

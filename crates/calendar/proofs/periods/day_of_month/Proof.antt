@@ -1,12 +1,9 @@
 use Rattle.calendar.proofs.Laws.Periods.{dayOfMonthCount-day, dayOfMonthCount-last}
 use native.Mathlib.Omega.{arith}
-use mathlib.Core.Path.{_≡_, refl, sym, _∙_, ap}
+use mathlib.Core.Path.{sym}
 use borrow.Author.Needs.{needs}
 use Rattle.calendar.proofs.periods.day_of_month.Statement.{statement}
 use Rattle.calendar.proofs.periods.day_of_month.Tie as tie
-use Rattle.calendar.proofs.periods.day_of_month.Reads as reads
-use Rattle.calendar.proofs.periods.day_of_month.Lts as lts
-use Rattle.calendar.proofs.gregorian.last_of_month.Reads as last-of-month-reads
 
 add-m : tie.Need-add-m
 add-m c = search needs

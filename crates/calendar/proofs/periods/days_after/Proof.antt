@@ -1,17 +1,13 @@
-use Rattle.calendar.specs.declared.DayAnswer.the-variants.{Day, NoDay}
+use Rattle.calendar.specs.declared.DayAnswer.the-variants.{Day}
 use Rattle.calendar.proofs.Laws.Periods.{daysAfter-day, daysAfter-none}
 use Rattle.calendar.proofs.Laws.Answers.{dayOf-day}
 use Rattle.calendar.proofs.Laws.DayNumber.{dayNumber-lt}
 use Rattle.calendar.specs.DayNumber.{calendarDays, dayOf}
 use Prim.Native.Nat.{_<_}
-use mathlib.Core.Path.{_≡_, refl, sym, _∙_, ap}
+use mathlib.Core.Path.{_≡_, sym, _∙_}
 use borrow.Author.Needs.{needs}
 use Rattle.calendar.proofs.periods.days_after.Statement.{statement}
 use Rattle.calendar.proofs.periods.days_after.Tie as tie
-use Rattle.calendar.proofs.periods.days_after.Reads as reads
-use Rattle.calendar.proofs.periods.days_after.Lts as lts
-use Rattle.calendar.proofs.gregorian.day_number.Reads as day-number-reads
-use Rattle.calendar.proofs.periods.plus.Reads as plus-reads
 
 -- the day that was answered is the date's
 known : (c : tie.After-known-told) → dayOf (c .before .before .before .before .args .x) ≡ Day (c .before .d .given .0 .0)

@@ -1,13 +1,10 @@
-use Rattle.calendar.specs.declared.DayAnswer.the-variants.{Day, NoDay}
+use Rattle.calendar.specs.declared.DayAnswer.the-variants.{Day}
 use Rattle.calendar.proofs.Laws.Periods.{daysBetween-days, daysBetween-later, daysBetween-no-start, daysBetween-no-end}
 use Rattle.calendar.specs.DayNumber.{dayOf}
-use mathlib.Core.Path.{_≡_, refl, sym, _∙_, ap}
+use mathlib.Core.Path.{_≡_, sym, _∙_}
 use borrow.Author.Needs.{needs}
 use Rattle.calendar.proofs.periods.days_between.Statement.{statement}
 use Rattle.calendar.proofs.periods.days_between.Tie as tie
-use Rattle.calendar.proofs.periods.days_between.Reads as reads
-use Rattle.calendar.proofs.periods.days_between.Lts as lts
-use Rattle.calendar.proofs.gregorian.day_number.Reads as day-number-reads
 
 start : (c : tie.After-known-told) → dayOf (c .before .before .before .before .args .x) ≡ Day (c .before .from .given .0 .0)
 start c = sym (c .before .before .before .day-number .ensures) ∙ c .before .from .given .1

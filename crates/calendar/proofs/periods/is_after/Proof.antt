@@ -1,8 +1,6 @@
 use borrow.Author.Needs.{needs}
 use Rattle.calendar.proofs.periods.is_after.Statement.{statement}
 use Rattle.calendar.proofs.periods.is_after.Tie as tie
-use Rattle.calendar.proofs.periods.is_after.Reads as reads
-use Rattle.calendar.proofs.periods.is_after.Lts as lts
 
 enum-known-limit : tie.Need-enum-known-limit
 enum-known-limit c = search needs

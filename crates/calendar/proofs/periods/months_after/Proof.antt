@@ -10,14 +10,10 @@ use mathlib.Core.Bool.{true, false}
 use native.Mathlib.Omega.{arith}
 use lib.Dec.{ltb}
 use Rattle.calendar.specs.declared.DateAnswer.the-variants.{Date}
-use mathlib.Core.Path.{_≡_, refl, sym, _∙_, ap}
+use mathlib.Core.Path.{_≡_, sym, _∙_, ap}
 use borrow.Author.Needs.{needs}
 use Rattle.calendar.proofs.periods.months_after.Statement.{statement}
 use Rattle.calendar.proofs.periods.months_after.Tie as tie
-use Rattle.calendar.proofs.periods.months_after.Reads as reads
-use Rattle.calendar.proofs.periods.months_after.Lts as lts
-use Rattle.calendar.proofs.gregorian.is_date.Reads as is-date-reads
-use Rattle.calendar.proofs.periods.day_of_month.Reads as day-of-month-reads
 
 tests : (c : tie.Then1) → isDate (c .before .before .args .x) ≡ true × c .before .before .args .n .0 < 26400
 tests c =

@@ -1,18 +1,13 @@
 use Rattle.calendar.proofs.Laws.BusinessDays.{openAfter-zero, openAfter-more, openAfter-mono-count}
 use Rattle.calendar.proofs.Laws.Answers.{dateOf-beyond, inCalendar-day, inCalendar-none}
-use Rattle.calendar.specs.declared.DayAnswer.the-variants.{Day, NoDay}
 use Rattle.calendar.specs.Target.{firstOpen, openAfter}
-use Rattle.calendar.specs.DayNumber.{calendarDays, dateOf, inCalendar}
+use Rattle.calendar.specs.DayNumber.{calendarDays, dateOf}
 use Prim.Native.Nat.{ℕ, _+_, _-_, _≤_, _<_}
 use native.Mathlib.Omega.{arith}
 use borrow.Author.Needs.{needs}
-use mathlib.Core.Path.{_≡_, refl, sym, _∙_, ap}
+use mathlib.Core.Path.{_≡_, sym, _∙_, ap}
 use Rattle.calendar.proofs.periods.open_after.Statement.{statement}
 use Rattle.calendar.proofs.periods.open_after.Tie as tie
-use Rattle.calendar.proofs.periods.open_after.Reads as reads
-use Rattle.calendar.proofs.periods.open_after.Lts as lts
-use Rattle.calendar.proofs.gregorian.date_of.Reads as date-of-reads
-use Rattle.calendar.proofs.target.first_open.Reads as first-open-reads
 
 abbrev Inv-loop : tie.InvT-loop
 Inv-loop d n at₀ i₀ at i = (i ≤ n) × (at < calendarDays) × (openAfter i d ≡ at)

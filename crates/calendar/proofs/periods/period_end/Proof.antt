@@ -1,15 +1,8 @@
 use Rattle.calendar.proofs.Laws.Periods.{periodEnd-is, periodEnd-no-months, periodEnd-no-days}
-use Rattle.calendar.specs.Periods.{daysAfter, monthsAfter}
-use Rattle.calendar.specs.declared.DateAnswer.the-variants.{Date, NoDate}
-use mathlib.Core.Path.{_≡_, refl, sym, _∙_, ap}
+use mathlib.Core.Path.{sym, _∙_}
 use borrow.Author.Needs.{needs}
 use Rattle.calendar.proofs.periods.period_end.Statement.{statement}
 use Rattle.calendar.proofs.periods.period_end.Tie as tie
-use Rattle.calendar.proofs.periods.period_end.Reads as reads
-use Rattle.calendar.proofs.periods.period_end.Lts as lts
-use Rattle.calendar.proofs.periods.business_days_after.Reads as business-days-after-reads
-use Rattle.calendar.proofs.periods.days_after.Reads as days-after-reads
-use Rattle.calendar.proofs.periods.months_after.Reads as months-after-reads
 
 months-after-requires : tie.Need-months-after-requires
 months-after-requires c κs = search needs

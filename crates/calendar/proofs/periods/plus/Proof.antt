@@ -1,12 +1,9 @@
 use Rattle.calendar.proofs.Laws.Answers.{dateOf-beyond}
 use native.Mathlib.Omega.{arith}
-use mathlib.Core.Path.{_≡_, refl, sym, _∙_, ap}
+use mathlib.Core.Path.{sym}
 use borrow.Author.Needs.{needs}
 use Rattle.calendar.proofs.periods.plus.Statement.{statement}
 use Rattle.calendar.proofs.periods.plus.Tie as tie
-use Rattle.calendar.proofs.periods.plus.Reads as reads
-use Rattle.calendar.proofs.periods.plus.Lts as lts
-use Rattle.calendar.proofs.gregorian.date_of.Reads as date-of-reads
 
 sub-if1 : tie.Need-sub-if1
 sub-if1 c = search needs

@@ -2,8 +2,6 @@ use Rattle.calendar.specs.Target.{closedBy}
 use borrow.Author.Needs.{needs}
 use Rattle.calendar.proofs.target.closed_by.Statement.{statement}
 use Rattle.calendar.proofs.target.closed_by.Tie as tie
-use Rattle.calendar.proofs.target.closed_by.Reads as reads
-use Rattle.calendar.proofs.target.closed_by.Lts as lts
 
 add-weekday : tie.Need-add-weekday
 add-weekday c = search needs

@@ -1,9 +1,6 @@
 use borrow.Author.Needs.{needs}
 use Rattle.calendar.proofs.target.date_of_day.Statement.{statement}
 use Rattle.calendar.proofs.target.date_of_day.Tie as tie
-use Rattle.calendar.proofs.target.date_of_day.Reads as reads
-use Rattle.calendar.proofs.target.date_of_day.Lts as lts
-use Rattle.calendar.proofs.gregorian.date_of.Reads as date-of-reads
 
 enum-known-d : tie.Need-enum-known-d
 enum-known-d c = search needs

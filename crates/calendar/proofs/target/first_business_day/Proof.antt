@@ -1,14 +1,9 @@
 use Rattle.calendar.proofs.Laws.BusinessDates.{firstBusinessDay-day, firstBusinessDay-none}
 use Rattle.calendar.specs.Target.{dated}
-use mathlib.Core.Path.{_≡_, refl, sym, _∙_, ap}
+use mathlib.Core.Path.{sym, _∙_, ap}
 use borrow.Author.Needs.{needs}
 use Rattle.calendar.proofs.target.first_business_day.Statement.{statement}
 use Rattle.calendar.proofs.target.first_business_day.Tie as tie
-use Rattle.calendar.proofs.target.first_business_day.Reads as reads
-use Rattle.calendar.proofs.target.first_business_day.Lts as lts
-use Rattle.calendar.proofs.gregorian.day_number.Reads as day-number-reads
-use Rattle.calendar.proofs.target.date_of_day.Reads as date-of-day-reads
-use Rattle.calendar.proofs.target.first_open.Reads as first-open-reads
 
 day-number-requires : tie.Need-day-number-requires
 day-number-requires c κs = search needs

@@ -9,9 +9,6 @@ use native.Mathlib.Omega.{arith}
 use borrow.Author.Needs.{needs}
 use Rattle.calendar.proofs.target.first_open.Statement.{statement}
 use Rattle.calendar.proofs.target.first_open.Tie as tie
-use Rattle.calendar.proofs.target.first_open.Reads as reads
-use Rattle.calendar.proofs.target.first_open.Lts as lts
-use Rattle.calendar.proofs.target.is_open.Reads as is-open-reads
 
 abbrev Inv-loop : tie.InvT-loop
 Inv-loop n d₀ d = (d < calendarDays) × (firstOpen d ≡ firstOpen n)

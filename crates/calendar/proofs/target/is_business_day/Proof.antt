@@ -1,13 +1,9 @@
 use Rattle.calendar.proofs.Laws.Target.{no-date-no-business}
 use Rattle.calendar.proofs.Laws.Answers.{dayOf-day, dayOf-none}
-use mathlib.Core.Path.{_≡_, refl, sym, _∙_, ap}
+use mathlib.Core.Path.{sym, _∙_}
 use borrow.Author.Needs.{needs}
 use Rattle.calendar.proofs.target.is_business_day.Statement.{statement}
 use Rattle.calendar.proofs.target.is_business_day.Tie as tie
-use Rattle.calendar.proofs.target.is_business_day.Reads as reads
-use Rattle.calendar.proofs.target.is_business_day.Lts as lts
-use Rattle.calendar.proofs.gregorian.day_number.Reads as day-number-reads
-use Rattle.calendar.proofs.target.open_on.Reads as open-on-reads
 
 day-number-requires : tie.Need-day-number-requires
 day-number-requires c κs = search needs

@@ -3,14 +3,10 @@ use Rattle.calendar.proofs.Laws.DayNumber.{dateAt-date, dayNumber-dateA
 use Rattle.calendar.proofs.Laws.Answers.{dateOf-date, dateOf-none}
 use Rattle.calendar.specs.DayNumber.{calendarDays, dateAt}
 use Prim.Native.Nat.{_<_}
-use mathlib.Core.Path.{_≡_, refl, sym, _∙_, ap}
+use mathlib.Core.Path.{_≡_, sym, _∙_}
 use borrow.Author.Needs.{needs}
 use Rattle.calendar.proofs.target.is_open.Statement.{statement}
 use Rattle.calendar.proofs.target.is_open.Tie as tie
-use Rattle.calendar.proofs.target.is_open.Reads as reads
-use Rattle.calendar.proofs.target.is_open.Lts as lts
-use Rattle.calendar.proofs.gregorian.date_of.Reads as date-of-reads
-use Rattle.calendar.proofs.target.open_on.Reads as open-on-reads
 
 -- the date that was answered is the day's
 known : (c : tie.After-known-told) → c .before .before .before .before .args .n < calendarDays × c .before .x .given .0 .0 ≡ dateAt (c .before .before .before .before .args .n)

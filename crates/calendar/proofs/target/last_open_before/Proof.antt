@@ -1,14 +1,10 @@
 use Rattle.calendar.proofs.Laws.BusinessDays.{lastOpen-none, lastOpen-hit, lastOpen-miss}
 use Rattle.calendar.specs.Target.{lastOpenBefore}
-use Prim.Native.Nat.{ℕ, suc, _-_}
 use mathlib.Core.Path.{_≡_, refl, sym, _∙_, ap}
 use native.Mathlib.Omega.{arith}
 use borrow.Author.Needs.{needs}
 use Rattle.calendar.proofs.target.last_open_before.Statement.{statement}
 use Rattle.calendar.proofs.target.last_open_before.Tie as tie
-use Rattle.calendar.proofs.target.last_open_before.Reads as reads
-use Rattle.calendar.proofs.target.last_open_before.Lts as lts
-use Rattle.calendar.proofs.target.is_open.Reads as is-open-reads
 
 abbrev Inv-loop : tie.InvT-loop
 Inv-loop n d₀ d = lastOpenBefore d ≡ lastOpenBefore n

@@ -8,14 +8,10 @@ use Rattle.calendar.specs.DayNumber.{dayNumber}
 use Rattle.calendar.specs.Gregorian.{year}
 use native.Mathlib.Omega.{arith}
 use Prim.Native.Nat.{ℕ}
-use mathlib.Core.Path.{_≡_, refl, sym, _∙_, ap}
+use mathlib.Core.Path.{_≡_, sym, _∙_}
 use borrow.Author.Needs.{needs}
 use Rattle.calendar.proofs.target.open_on.Statement.{statement}
 use Rattle.calendar.proofs.target.open_on.Tie as tie
-use Rattle.calendar.proofs.target.open_on.Reads as reads
-use Rattle.calendar.proofs.target.open_on.Lts as lts
-use Rattle.calendar.proofs.easter.easter_day.Reads as easter-day-reads
-use Rattle.calendar.proofs.target.closed_by.Reads as closed-by-reads
 
 -- what was answered is the year's Easter Sunday
 easter : (c : tie.After-known-told) → c .before .e .given .0 .0 ≡ dayNumber (easterSunday (year (c .before .before .before .before .args .x)))
