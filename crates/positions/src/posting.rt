@@ -1,0 +1,85 @@
+// Postings to a table of positions: specs/Positions and specs/Answers.
+ghost use mathlib.Core.Path.{_≡_};
+ghost use Prim.Native.Nat.{_<_};
+ghost use lib.IntN.{pos, _+ℤ_};
+ghost use lib.ListN.{length, getD, set};
+ghost use mir.Syntax.{w64};
+ghost use mir.Val.{SFits};
+ghost use Rattle.positions.specs.Positions.{position, positionLimit, isEntry, within, Entry, posted};
+ghost use Rattle.positions.specs.Answers.{capacity, postAnswer, afterPost, transferAnswer, afterTransfer};
+use crate::PostAnswer;
+
+// Whether a position lies within the limit of document 01.
+pub fn in_limit(z: i64) -> bool
+    ensures { λ r. ⌜ r ≡ within positionLimit z ⌝ }
+{
+    (-10000000000000000 <= z) & (z <= 10000000000000000)
+}
+
+// Whether a number is small enough to be added to another such.
+fn in_capacity(z: i64) -> bool
+    ensures { λ r. ⌜ r ≡ within capacity z ⌝ }
+{
+    (-4000000000000000000 <= z) & (z <= 4000000000000000000)
+}
+
+// Whether the table has an entry for the number.
+pub fn is_entry(positions: &[i64], number: u64) -> bool
+    ensures { λ r. ⌜ r ≡ isEntry (now (positions .entry)) number ⌝ }
+{
+    (1 <= number) & (number <= positions.len() as u64)
+}
+
+// The position of a number, 0 where there is no entry.
+pub fn position_of(positions: &[i64], number: u64) -> i64
+    ensures { λ r. ⌜ r ≡ position (now (positions .entry)) number ⌝ }
+{
+    if is_entry(positions, number) {
+        return positions[(number - 1) as usize];
+    }
+    0
+}
+
+// Adds an amount to the position of a number that has an entry.
+fn add(positions: &mut [i64], number: u64, amount: i64)
+    requires { ⌜ Entry (now positions) number × SFits w64 (position (now positions) number +ℤ amount) ⌝ }
+    ensures { λ _. ⌜ now (positions .exit) ≡ posted (now (positions .entry)) number amount ⌝ }
+{
+    let at = (number - 1) as usize;
+    let old = positions[at];
+    positions[at] = old + amount;
+}
+
+// Posts an amount to the position of a number.
+pub fn post(positions: &mut [i64], number: u64, amount: i64) -> PostAnswer
+    ensures answer { λ r. ⌜ r ≡ postAnswer (now (positions .entry)) number amount ⌝ }
+    ensures table { λ _. ⌜ now (positions .exit) ≡ afterPost (now (positions .entry)) number amount ⌝ }
+{
+    if !is_entry(positions, number) {
+        return PostAnswer::NoEntry;
+    }
+    if !(in_capacity(position_of(positions, number)) & in_capacity(amount)) {
+        return PostAnswer::TooLarge;
+    }
+    add(positions, number, amount);
+    PostAnswer::Posted
+}
+
+// Takes an amount from one number and gives it to another, or to the same.
+pub fn transfer(positions: &mut [i64], from: u64, to: u64, amount: i64) -> PostAnswer
+    ensures answer { λ r. ⌜ r ≡ transferAnswer (now (positions .entry)) from to amount ⌝ }
+    ensures table { λ _. ⌜ now (positions .exit) ≡ afterTransfer (now (positions .entry)) from to amount ⌝ }
+{
+    if !(is_entry(positions, from) & is_entry(positions, to)) {
+        return PostAnswer::NoEntry;
+    }
+    let sizes = in_capacity(position_of(positions, from))
+        & in_capacity(position_of(positions, to))
+        & in_capacity(amount);
+    if !sizes {
+        return PostAnswer::TooLarge;
+    }
+    add(positions, from, -amount);
+    add(positions, to, amount);
+    PostAnswer::Posted
+}
