@@ -5,7 +5,7 @@ ghost use lib.IntN.{pos, _+ℤ_};
 ghost use lib.ListN.{length, getD, set};
 ghost use mir.Syntax.{w64};
 ghost use mir.Val.{SFits};
-ghost use Rattle.positions.specs.Positions.{position, positionLimit, isEntry, within, Entry, posted};
+ghost use Rattle.positions.specs.Positions.{position, positionLimit, isEntry, within};
 ghost use Rattle.positions.specs.Answers.{capacity, postAnswer, afterPost, transferAnswer, afterTransfer};
 use crate::PostAnswer;
 
@@ -40,12 +40,18 @@ pub fn position_of(positions: &[i64], number: u64) -> i64
     0
 }
 
-// Adds an amount to the position of a number that has an entry.
-fn add(positions: &mut [i64], number: u64, amount: i64)
-    requires { ⌜ Entry (now positions) number × SFits w64 (position (now positions) number +ℤ amount) ⌝ }
-    ensures { λ _. ⌜ now (positions .exit) ≡ posted (now (positions .entry)) number amount ⌝ }
+// Whether the position of a number is small enough to be added to.
+fn is_held(positions: &[i64], number: u64) -> bool
+    ensures { λ r. ⌜ r ≡ within capacity (position (now (positions .entry)) number) ⌝ }
 {
-    let at = (number - 1) as usize;
+    in_capacity(position_of(positions, number))
+}
+
+// Adds an amount to the position at an index of the table.
+fn add(positions: &mut [i64], at: usize, amount: i64)
+    requires { ⌜ (at < length (now positions)) × SFits w64 (getD (now positions) at (pos 0) +ℤ amount) ⌝ }
+    ensures { λ _. ⌜ now (positions .exit) ≡ set (now (positions .entry)) at (getD (now (positions .entry)) at (pos 0) +ℤ amount) ⌝ }
+{
     let old = positions[at];
     positions[at] = old + amount;
 }
@@ -58,10 +64,10 @@ pub fn post(positions: &mut [i64], number: u64, amount: i64) -> PostAnswer
     if !is_entry(positions, number) {
         return PostAnswer::NoEntry;
     }
-    if !(in_capacity(position_of(positions, number)) & in_capacity(amount)) {
+    if !(is_held(positions, number) & in_capacity(amount)) {
         return PostAnswer::TooLarge;
     }
-    add(positions, number, amount);
+    add(positions, (number - 1) as usize, amount);
     PostAnswer::Posted
 }
 
@@ -73,13 +79,11 @@ pub fn transfer(positions: &mut [i64], from: u64, to: u64, amount: i64) -> PostA
     if !(is_entry(positions, from) & is_entry(positions, to)) {
         return PostAnswer::NoEntry;
     }
-    let sizes = in_capacity(position_of(positions, from))
-        & in_capacity(position_of(positions, to))
-        & in_capacity(amount);
+    let sizes = is_held(positions, from) & is_held(positions, to) & in_capacity(amount);
     if !sizes {
         return PostAnswer::TooLarge;
     }
-    add(positions, from, -amount);
-    add(positions, to, amount);
+    add(positions, (from - 1) as usize, -amount);
+    add(positions, (to - 1) as usize, amount);
     PostAnswer::Posted
 }

@@ -104,18 +104,20 @@ pub inLimits-parts : (a r d : ℕ) → inLimits a r d ≡ true → InLimits a r 
 inLimits-parts a r d e =
     let tests = leb 1 a ∷ leb a amountLimit ∷ leb r rateLimit ∷ leb d daysLimit ∷ [] in
     record {
-        low = leb-true 1 a (allOf-at tests 0 e);
-        amount = leb-true a amountLimit (allOf-at tests 1 e);
-        rate = leb-true r rateLimit (allOf-at tests 2 e);
-        days = leb-true d daysLimit (allOf-at tests 3 e) }
+      low = leb-true 1 a (allOf-at tests 0 e);
+      amount = leb-true a amountLimit (allOf-at tests 1 e);
+      rate = leb-true r rateLimit (allOf-at tests 2 e);
+      days = leb-true d daysLimit (allOf-at tests 3 e);
+    }
 
 pub parts-inLimits : (a r d : ℕ) → InLimits a r d → inLimits a r d ≡ true
 parts-inLimits a r d h =
-    rw
-    (le-leb 1 a (h .low),
-    le-leb a amountLimit (h .amount),
-    le-leb r rateLimit (h .rate),
-    le-leb d daysLimit (h .days))
+    rw (
+      le-leb 1 a (h .low),
+      le-leb a amountLimit (h .amount),
+      le-leb r rateLimit (h .rate),
+      le-leb d daysLimit (h .days),
+    )
 
 -- the interest and its sums in the rounding fit 64 bits
 pub interest-fits : (a r d : ℕ) → InLimits a r d → interest a r d < 1000000000000000000
@@ -131,9 +133,9 @@ pub compensationOf-cents : (a r d k : ℕ) → compensationOf a r d ≡ Cents k 
 unfolding compensationOf
 compensationOf-cents a r d k e = by-test (inLimits a r d) refl e
   where
-  by-test : (t : Bool) → inLimits a r d ≡ t → cond t (Cents (compensation a r d)) OutsideLimits ≡ Cents k → InLimits a r d × (k ≡ compensation a r d)
-  by-test true q p = (inLimits-parts a r d q, cc)
-  by-test false q p = let z : _≡_ {A = ℕ} 0 1 = cc in absurd (omega arith)
+    by-test : (t : Bool) → inLimits a r d ≡ t → cond t (Cents (compensation a r d)) OutsideLimits ≡ Cents k → InLimits a r d × (k ≡ compensation a r d)
+    by-test true q p = (inLimits-parts a r d q, cc)
+    by-test false q p = let z : _≡_ {A = ℕ} 0 1 = cc in absurd (omega arith)
 
 pub compensationOf-outside : (a r d : ℕ) → inLimits a r d ≡ false → compensationOf a r d ≡ OutsideLimits
 unfolding compensationOf

@@ -6,7 +6,7 @@ use Prim.Native.Nat.{ℕ, zero, suc, _+_, _-_, _*_, _<_, _≤_, _^_}
 use native.Mathlib.Omega.{arith}
 use borrow.Author.Tests.{leb-true, le-leb, lt-ltb, ltb-true, ltb-false}
 use lib.Dec.{ltb, leb}
-use lib.IntN.{ℤ, pos, negsuc, negℤ, natAbs, subℕ, _+ℤ_, _-ℤ_, +ℤ-assoc, +ℤ-comm, +ℤ-idr, +ℤ-invr, +ℤ-invl}
+use lib.IntN.{ℤ, pos, negsuc, negℤ, natAbs, subℕ, _+ℤ_, _-ℤ_, +ℤ-assoc, +ℤ-comm, +ℤ-idl, +ℤ-idr, +ℤ-invr, +ℤ-invl}
 use lib.Signed.{leZ}
 use mir.Syntax.{w64}
 use mir.Val.{toZ, ofZ, SFits}
@@ -31,9 +31,9 @@ cancel-add a x = +ℤ-assoc a (negℤ x) x ∙ ap (λ (y : ℤ). a +ℤ y) (+ℤ
 size-sub : (a b : ℕ) → natAbs (subℕ a b) ≤ a + b
 size-sub a b = by-test (ltb a b) refl
   where
-  by-test : (t : Bool) → ltb a b ≡ t → natAbs (cond t (negsuc (b - suc a)) (pos (a - b))) ≤ a + b
-  by-test true e = omega (arith, ltb-true a b e)
-  by-test false e = omega arith
+    by-test : (t : Bool) → ltb a b ≡ t → natAbs (cond t (negsuc (b - suc a)) (pos (a - b))) ≤ a + b
+    by-test true e = omega (arith, ltb-true a b e)
+    by-test false e = omega arith
 
 pub size-add : (a b : ℤ) → natAbs (a +ℤ b) ≤ natAbs a + natAbs b
 size-add (pos a) (pos b) = omega arith
@@ -51,9 +51,9 @@ pub size-between : (a b m : ℕ) → 2 * a ≤ 2 * b + m → 2 * b ≤ 2 * a + m
 size-between a zero m p q = omega arith
 size-between a (suc b) m p q = by-test (ltb a (suc b)) refl
   where
-  by-test : (t : Bool) → ltb a (suc b) ≡ t → 2 * natAbs (cond t (negsuc (suc b - suc a)) (pos (a - suc b))) ≤ m
-  by-test true e = omega (arith, ltb-true a (suc b) e)
-  by-test false e = omega (arith, ltb-false a (suc b) e)
+    by-test : (t : Bool) → ltb a (suc b) ≡ t → 2 * natAbs (cond t (negsuc (suc b - suc a)) (pos (a - suc b))) ≤ m
+    by-test true e = omega (arith, ltb-true a (suc b) e)
+    by-test false e = omega (arith, ltb-false a (suc b) e)
 
 -- ---- within
 
@@ -81,3 +81,20 @@ bits-back z h = toZ-ofZ (size-fits z h)
 -- of an unsigned number
 pub bits-small : (n : ℕ) → n < 2 ^ 63 → toZ w64 n ≡ pos n
 bits-small n h = rw (lt-ltb n (2 ^ 63) h)
+
+-- of a number taken from 0, as the code negates
+pub minus-bits : (x : ℤ) → natAbs x < 2 ^ 63 → pos 0 -ℤ toZ w64 (ofZ w64 x) ≡ negℤ x
+minus-bits x h = rw (bits-back x h) (+ℤ-idl (negℤ x))
+
+pub minus-fits : (x : ℤ) → natAbs x < 2 ^ 63 → SFits w64 (pos 0 -ℤ toZ w64 (ofZ w64 x))
+minus-fits x h = rw (minus-bits x h) (size-fits (negℤ x) (omega (arith, size-neg x)))
+
+pub minus-back : (x : ℤ) → natAbs x < 2 ^ 63 → toZ w64 (ofZ w64 (pos 0 -ℤ toZ w64 (ofZ w64 x))) ≡ negℤ x
+minus-back x h = rw (minus-bits x h) (bits-back (negℤ x) (omega (arith, size-neg x)))
+
+-- the same of an unsigned number
+pub minus-small-fits : (n : ℕ) → n < 2 ^ 63 → SFits w64 (pos 0 -ℤ toZ w64 n)
+minus-small-fits n h = minus-fits (pos n) h
+
+pub minus-small : (n : ℕ) → n < 2 ^ 63 → toZ w64 (ofZ w64 (pos 0 -ℤ toZ w64 n)) ≡ negℤ (pos n)
+minus-small n h = minus-back (pos n) h

@@ -41,9 +41,9 @@ posted-index l (suc i) x h =
 past-end : (l : List ℤ) (i : ℕ) → isEntry l (suc i) ≡ false → length l ≤ i
 past-end l i e = by-test (leb (suc i) (length l)) refl
   where
-  by-test : (t : Bool) → leb (suc i) (length l) ≡ t → length l ≤ i
-  by-test true q = absurd (never (and-true (le-leb 1 (suc i) (omega arith)) q) e)
-  by-test false q = omega (arith, leb-false (suc i) (length l) q)
+    by-test : (t : Bool) → leb (suc i) (length l) ≡ t → length l ≤ i
+    by-test true q = absurd (never (and-true (le-leb 1 (suc i) (omega arith)) q) e)
+    by-test false q = omega (arith, leb-false (suc i) (length l) q)
 
 -- a number without an entry has the position 0
 pub position-none : (l : List ℤ) (k : ℕ) → isEntry l k ≡ false → position l k ≡ pos 0
@@ -160,12 +160,13 @@ position-zeros (suc n) (suc (suc i)) = position-zeros n (suc i)
 pub size-posted : (l : List ℤ) (k j : ℕ) (x : ℤ) → natAbs (position (posted l k x) j) ≤ natAbs (position l j) + natAbs x
 size-posted l k j x = by-test (eqb j k) refl
   where
-  by-entry : (t : Bool) → isEntry l k ≡ t → natAbs (position (posted l k x) k) ≤ natAbs (position l k) + natAbs x
-  by-entry true e = rw (position-posted-same l k x (isEntry-entry l k e)) (size-add (position l k) x)
-  by-entry false e = rw (posted-none l k x e) (omega arith)
-  by-test : (t : Bool) → eqb j k ≡ t → natAbs (position (posted l k x) j) ≤ natAbs (position l j) + natAbs x
-  by-test true e = rw (eqb-true j k e) (by-entry (isEntry l k) refl)
-  by-test false e = rw (position-posted-other l k j x (eqb-false j k e)) (omega arith)
+    by-entry : (t : Bool) → isEntry l k ≡ t → natAbs (position (posted l k x) k) ≤ natAbs (position l k) + natAbs x
+    by-entry true e = rw (position-posted-same l k x (isEntry-entry l k e)) (size-add (position l k) x)
+    by-entry false e = rw (posted-none l k x e) (omega arith)
+
+    by-test : (t : Bool) → eqb j k ≡ t → natAbs (position (posted l k x) j) ≤ natAbs (position l j) + natAbs x
+    by-test true e = rw (eqb-true j k e) (by-entry (isEntry l k) refl)
+    by-test false e = rw (position-posted-other l k j x (eqb-false j k e)) (omega arith)
 
 pub within-zeros : (m n : ℕ) → Within m (zeros n)
 within-zeros m n k = rw (position-zeros n k) (omega arith)
@@ -181,14 +182,14 @@ pub size-transferred : (l : List ℤ) (from to j : ℕ) (x : ℤ) → natAbs (po
 unfolding transferred
 size-transferred l from to j x = by-test (eqb from to) (eqb j to) refl refl
   where
-  by-test : (s t : Bool) → eqb from to ≡ s → eqb j to ≡ t → natAbs (position (transferred l from to x) j) ≤ natAbs (position l j) + natAbs x
-  by-test true t e q = rw (eqb-true from to e, transferred-same l to x) (omega arith)
-  by-test false true e q =
-      let other = position-posted-other l from to (negℤ x) (λ p. eqb-false from to e (sym p)) in
-      rw (eqb-true j to q) (omega (arith, size-posted (posted l from (negℤ x)) to to x, ap natAbs other))
-  by-test false false e q =
-      rw (position-posted-other (posted l from (negℤ x)) to j x (eqb-false j to q))
-      (omega (arith, size-posted l from j (negℤ x), size-neg x))
+    by-test : (s t : Bool) → eqb from to ≡ s → eqb j to ≡ t → natAbs (position (transferred l from to x) j) ≤ natAbs (position l j) + natAbs x
+    by-test true t e q = rw (eqb-true from to e, transferred-same l to x) (omega arith)
+    by-test false true e q =
+        let other = position-posted-other l from to (negℤ x) (λ p. eqb-false from to e (sym p)) in
+        rw (eqb-true j to q) (omega (arith, size-posted (posted l from (negℤ x)) to to x, ap natAbs other))
+    by-test false false e q =
+        rw (position-posted-other (posted l from (negℤ x)) to j x (eqb-false j to q))
+        (omega (arith, size-posted l from j (negℤ x), size-neg x))
 
 pub within-transferred : (m n : ℕ) (l : List ℤ) (from to : ℕ) (x : ℤ) → Within m l → natAbs x ≤ n → Within (m + n) (transferred l from to x)
 within-transferred m n l from to x w h j = omega (arith, size-transferred l from to j x, w j)

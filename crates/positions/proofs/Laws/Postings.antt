@@ -97,27 +97,30 @@ pub record AtMost (m : ℕ) (p : Postings) : Type 0 where
 
 pub opposite-size : (m : ℕ) (p : Postings) → AtMost m p → AtMost m (opposite p)
 opposite-size m p h = record {
-    debtor = rw size-neg (h .debtor);
-    creditor = rw size-neg (h .creditor);
-    dbank = rw size-neg (h .dbank);
-    cbank = rw size-neg (h .cbank);
-    compensation = rw size-neg (h .compensation) }
+  debtor = rw size-neg (h .debtor);
+  creditor = rw size-neg (h .creditor);
+  dbank = rw size-neg (h .dbank);
+  cbank = rw size-neg (h .cbank);
+  compensation = rw size-neg (h .compensation);
+}
 
 pub settlement-size : (A : ℕ) → AtMost A (settlement A)
 settlement-size A = record {
-    debtor = rw size-neg (omega arith);
-    creditor = omega arith;
-    dbank = rw size-neg (omega arith);
-    cbank = omega arith;
-    compensation = omega arith }
+  debtor = rw size-neg (omega arith);
+  creditor = omega arith;
+  dbank = rw size-neg (omega arith);
+  cbank = omega arith;
+  compensation = omega arith;
+}
 
 pub reversed-size : (A : ℕ) → AtMost A (reversed A)
 reversed-size A = opposite-size A (settlement A) (settlement-size A)
 
 pub refunded-size : (A K : ℕ) → AtMost (A + K) (refunded A K)
 refunded-size A K = record {
-    debtor = omega arith;
-    creditor = rw size-neg (omega arith);
-    dbank = omega arith;
-    cbank = rw size-neg (omega arith);
-    compensation = omega arith }
+  debtor = omega arith;
+  creditor = rw size-neg (omega arith);
+  dbank = omega arith;
+  cbank = rw size-neg (omega arith);
+  compensation = omega arith;
+}
