@@ -2,7 +2,7 @@
 -- Assumes nothing.
 use mathlib.Core.Bool.{Bool, cond}
 use mathlib.Core.List.{[], _∷_}
-use Prim.Native.Nat.{ℕ, _+_, _*_, _/_}
+use Prim.Native.Nat.{ℕ, _+_, _*_, _/_, _≤_}
 use lib.Dec.{leb}
 use Rattle.common.specs.Tests.{allOf}
 use Rattle.positions.specs.declared.CompensationAnswer.{CompensationAnswer}
@@ -44,6 +44,16 @@ inLimits amount rate days =
     ∷ leb rate rateLimit
     ∷ leb days daysLimit
     ∷ [])
+
+pub record InLimits (amount rate days : ℕ) : Type 0 where
+  pub low : 1 ≤ amount
+  pub high : amount ≤ amountLimit
+  pub rated : rate ≤ rateLimit
+  pub dated : days ≤ daysLimit
+
+-- the interest is below this, and its double and the parts of a cent fit 64 bits
+abbrev pub interestBound : ℕ
+interestBound = 1000000000000000000
 
 unfoldable pub compensationOf : ℕ → ℕ → ℕ → CompensationAnswer
 compensationOf amount rate days = cond (inLimits amount rate days) (Cents (compensation amount rate days)) OutsideLimits

@@ -1,6 +1,8 @@
 // The amounts that an event of money posts: specs/Postings.
 ghost use mathlib.Core.Path.{_≡_};
 ghost use Rattle.positions.specs.Answers.{settlementOf, reversedOf, refundedOf};
+use crate::AMOUNT_LIMIT;
+use crate::COMPENSATION_LIMIT;
 use crate::Postings;
 use crate::PostingsAnswer;
 
@@ -8,7 +10,7 @@ use crate::PostingsAnswer;
 pub fn settlement(amount: u64) -> PostingsAnswer
     ensures { λ r. ⌜ r ≡ settlementOf amount ⌝ }
 {
-    if amount <= 99999999999 {
+    if amount <= AMOUNT_LIMIT {
         let a = amount as i64;
         return PostingsAnswer::Amounts(Postings {
             debtor: -a,
@@ -25,7 +27,7 @@ pub fn settlement(amount: u64) -> PostingsAnswer
 pub fn reversed(amount: u64) -> PostingsAnswer
     ensures { λ r. ⌜ r ≡ reversedOf amount ⌝ }
 {
-    if amount <= 99999999999 {
+    if amount <= AMOUNT_LIMIT {
         let a = amount as i64;
         return PostingsAnswer::Amounts(Postings {
             debtor: a,
@@ -42,7 +44,7 @@ pub fn reversed(amount: u64) -> PostingsAnswer
 pub fn refunded(amount: u64, cents: u64) -> PostingsAnswer
     ensures { λ r. ⌜ r ≡ refundedOf amount cents ⌝ }
 {
-    if (amount <= 99999999999) & (cents <= 277472249997) {
+    if (amount <= AMOUNT_LIMIT) & (cents <= COMPENSATION_LIMIT) {
         let a = amount as i64;
         let both = (amount + cents) as i64;
         let k = cents as i64;

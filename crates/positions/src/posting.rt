@@ -9,18 +9,23 @@ ghost use Rattle.positions.specs.Positions.{position, positionLimit, isE
 ghost use Rattle.positions.specs.Answers.{capacity, postAnswer, afterPost, transferAnswer, afterTransfer};
 use crate::PostAnswer;
 
+// How far a position may lie on either side of 0, and how far what is added to one.
+const POSITION_LIMIT: i64 = 10000000000000000;
+
+const CAPACITY: i64 = 4000000000000000000;
+
 // Whether a position lies within the limit of document 01.
 pub fn in_limit(z: i64) -> bool
     ensures { λ r. ⌜ r ≡ within positionLimit z ⌝ }
 {
-    (-10000000000000000 <= z) & (z <= 10000000000000000)
+    (-POSITION_LIMIT <= z) & (z <= POSITION_LIMIT)
 }
 
 // Whether a number is small enough to be added to another such.
 fn in_capacity(z: i64) -> bool
     ensures { λ r. ⌜ r ≡ within capacity z ⌝ }
 {
-    (-4000000000000000000 <= z) & (z <= 4000000000000000000)
+    (-CAPACITY <= z) & (z <= CAPACITY)
 }
 
 // Whether the table has an entry for the number.

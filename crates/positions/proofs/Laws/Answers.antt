@@ -1,26 +1,25 @@
 -- Laws of specs/Answers. Names: F-no-entry, F-too-large and F-made give the answer of F and the table after it.
 -- To cite: `post-fits` and `transfer-fits` (a posting within capacity is made), `settlementOf-is`, `reversedOf-is`,
 -- `refundedOf-is`. Assumes nothing.
-use mathlib.Core.Path.{_≡_, refl, sym, _∙_, ap}
-use mathlib.Core.Bool.{Bool, true, false, cond, _&&_}
-use mathlib.Core.List.{List, [], _∷_}
-use Prim.Native.Nat.{ℕ, _-_, _<_, _≤_}
+use mathlib.Core.Path.{_≡_, sym, _∙_, ap}
+use mathlib.Core.Bool.{Bool, true, false, _&&_}
+use mathlib.Core.List.{List}
+use Prim.Native.Nat.{ℕ, _+_, _-_, _<_, _≤_}
 use native.Mathlib.Omega.{arith}
-use borrow.Author.Tests.{le-leb}
+use borrow.Author.Tests.{le-leb, lt-leb}
 use lib.Dec.{leb}
-use lib.IntN.{ℤ, pos, negℤ, natAbs, _+ℤ_}
+use lib.IntN.{ℤ, pos, negℤ, natAbs, _+ℤ_, negℤ-negℤ}
 use lib.ListN.{length, getD}
 use mir.Syntax.{w64}
 use mir.Val.{SFits}
 use Rattle.common.proofs.Tests.{and-halves, and-true}
-use Rattle.positions.specs.declared.PostAnswer.{PostAnswer}
 use Rattle.positions.specs.declared.PostAnswer.the-variants.{Posted, NoEntry, TooLarge}
 use Rattle.positions.specs.declared.PostingsAnswer.the-variants.{Amounts, OutsideLimits}
 use Rattle.positions.specs.Positions.{isEntry, Entry, position, posted, transferred, within}
 use Rattle.positions.specs.Postings.{settlement, reversed, refunded}
 use Rattle.positions.specs.Compensation.{amountLimit}
 use Rattle.positions.specs.Limits.{compensationLimit}
-use Rattle.positions.specs.Answers.{capacity, answerOf, postAnswer, transferAnswer, afterPost, afterTransfer, settlementOf, reversedOf, refundedOf}
+use Rattle.positions.specs.Answers.{capacity, postAnswer, transferAnswer, afterPost, afterTransfer, settlementOf, reversedOf, refundedOf}
 use Rattle.positions.proofs.Laws.Integers.{size-add, size-neg, within-size, size-within, size-fits}
 use Rattle.positions.proofs.Laws.Positions.{entry-isEntry, entry-posted, position-index, position-posted-same, transferred-posted, size-transferred}
 
@@ -120,10 +119,32 @@ pub settlementOf-is : (A : ℕ) → A ≤ amountLimit → settlementOf A ≡ Amo
 unfolding settlementOf
 settlementOf-is A h = rw (le-leb A amountLimit h)
 
+pub settlementOf-outside : (A : ℕ) → amountLimit < A → settlementOf A ≡ OutsideLimits
+unfolding settlementOf
+settlementOf-outside A h = rw (lt-leb A amountLimit h)
+
 pub reversedOf-is : (A : ℕ) → A ≤ amountLimit → reversedOf A ≡ Amounts (reversed A)
 unfolding reversedOf
 reversedOf-is A h = rw (le-leb A amountLimit h)
 
+pub reversedOf-outside : (A : ℕ) → amountLimit < A → reversedOf A ≡ OutsideLimits
+unfolding reversedOf
+reversedOf-outside A h = rw (lt-leb A amountLimit h)
+
 pub refundedOf-is : (A K : ℕ) → A ≤ amountLimit → K ≤ compensationLimit → refundedOf A K ≡ Amounts (refunded A K)
 unfolding refundedOf
 refundedOf-is A K h k = rw (le-leb A amountLimit h, le-leb K compensationLimit k)
+
+pub refundedOf-outside : (A K : ℕ) → leb A amountLimit && leb K compensationLimit ≡ false → refundedOf A K ≡ OutsideLimits
+unfolding refundedOf
+refundedOf-outside A K e = rw e
+
+-- the amounts as the code makes them, from the 64 bits of what is added and of what is taken
+pub settlement-amounts : (A : ℕ) (plus minus : ℤ) → plus ≡ pos A → minus ≡ negℤ (pos A) → A ≤ amountLimit → Amounts (record { debtor = minus; creditor = plus; dbank = minus; cbank = plus; compensation = pos 0 }) ≡ settlementOf A
+settlement-amounts A plus minus p m h = rw (p, m) (sym (settlementOf-is A h))
+
+pub reversed-amounts : (A : ℕ) (plus minus : ℤ) → plus ≡ pos A → minus ≡ negℤ (pos A) → A ≤ amountLimit → Amounts (record { debtor = plus; creditor = minus; dbank = plus; cbank = minus; compensation = pos 0 }) ≡ reversedOf A
+reversed-amounts A plus minus p m h = rw (p, m, reversedOf-is A h, negℤ-negℤ (pos A))
+
+pub refunded-amounts : (A K : ℕ) (back plus minus cents : ℤ) → back ≡ pos A → plus ≡ pos (A + K) → minus ≡ negℤ (pos (A + K)) → cents ≡ pos K → A ≤ amountLimit → K ≤ compensationLimit → Amounts (record { debtor = back; creditor = minus; dbank = plus; cbank = minus; compensation = cents }) ≡ refundedOf A K
+refunded-amounts A K back plus minus cents b p m c h k = rw (b, p, m, c) (sym (refundedOf-is A K h k))

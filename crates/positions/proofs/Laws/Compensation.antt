@@ -1,9 +1,9 @@
 -- Laws of specs/Compensation. Names: halfUp- speaks of the rounding alone; F-mono says that F keeps the order.
 -- To cite: `compensation-near`, `compensation-half`, `compensation-mono`, `compensation-no-days`. Assumes nothing.
-use mathlib.Core.Path.{_≡_, refl, sym, _∙_, ap}
+use mathlib.Core.Path.{_≡_, refl}
 use mathlib.Core.Bool.{Bool, true, false, cond}
 use mathlib.Core.List.{[], _∷_}
-use Prim.Native.Nat.{ℕ, zero, suc, _+_, _-_, _*_, _/_, _%_, _<_, _≤_}
+use Prim.Native.Nat.{ℕ, _+_, _-_, _*_, _/_, _<_, _≤_}
 use native.Mathlib.Nat.{div-add-mod', div-eq-of-lt-le, le-div-iff-mul-le, mod-lt, mul-le-mul, mul-zero}
 use native.Mathlib.Omega.{arith}
 use borrow.Author.Tests.{leb-true, le-leb}
@@ -11,9 +11,8 @@ use lib.Dec.{leb}
 use lib.IntN.{pos, natAbs, _-ℤ_}
 use Rattle.common.proofs.Tests.{allOf-at}
 use Rattle.positions.proofs.Laws.Integers.{size-between}
-use Rattle.positions.specs.declared.CompensationAnswer.{CompensationAnswer}
 use Rattle.positions.specs.declared.CompensationAnswer.the-variants.{Cents, OutsideLimits}
-use Rattle.positions.specs.Compensation.{partsOfCent, interest, halfUp, compensation, amountLimit, rateLimit, daysLimit, inLimits, compensationOf}
+use Rattle.positions.specs.Compensation.{partsOfCent, interest, halfUp, compensation, amountLimit, rateLimit, daysLimit, inLimits, InLimits, interestBound, compensationOf}
 
 -- ---- halfUp
 
@@ -94,36 +93,30 @@ compensation-days a r d e h = compensation-mono a a r r d e (omega arith) (omega
 
 -- ---- for which values it is worked out
 
-pub record InLimits (a r d : ℕ) : Type 0 where
-  pub low : 1 ≤ a
-  pub amount : a ≤ amountLimit
-  pub rate : r ≤ rateLimit
-  pub days : d ≤ daysLimit
-
 pub inLimits-parts : (a r d : ℕ) → inLimits a r d ≡ true → InLimits a r d
 inLimits-parts a r d e =
     let tests = leb 1 a ∷ leb a amountLimit ∷ leb r rateLimit ∷ leb d daysLimit ∷ [] in
     record {
       low = leb-true 1 a (allOf-at tests 0 e);
-      amount = leb-true a amountLimit (allOf-at tests 1 e);
-      rate = leb-true r rateLimit (allOf-at tests 2 e);
-      days = leb-true d daysLimit (allOf-at tests 3 e);
+      high = leb-true a amountLimit (allOf-at tests 1 e);
+      rated = leb-true r rateLimit (allOf-at tests 2 e);
+      dated = leb-true d daysLimit (allOf-at tests 3 e);
     }
 
 pub parts-inLimits : (a r d : ℕ) → InLimits a r d → inLimits a r d ≡ true
 parts-inLimits a r d h =
     rw (
       le-leb 1 a (h .low),
-      le-leb a amountLimit (h .amount),
-      le-leb r rateLimit (h .rate),
-      le-leb d daysLimit (h .days),
+      le-leb a amountLimit (h .high),
+      le-leb r rateLimit (h .rated),
+      le-leb d daysLimit (h .dated),
     )
 
 -- the interest and its sums in the rounding fit 64 bits
-pub interest-fits : (a r d : ℕ) → InLimits a r d → interest a r d < 1000000000000000000
+pub interest-fits : (a r d : ℕ) → InLimits a r d → interest a r d < interestBound
 unfolding interest
 interest-fits a r d h =
-    omega (arith, interest-mono a amountLimit r rateLimit d daysLimit (h .amount) (h .rate) (h .days))
+    omega (arith, interest-mono a amountLimit r rateLimit d daysLimit (h .high) (h .rated) (h .dated))
 
 pub compensationOf-is : (a r d : ℕ) → InLimits a r d → compensationOf a r d ≡ Cents (compensation a r d)
 unfolding compensationOf

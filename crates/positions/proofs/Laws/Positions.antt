@@ -2,19 +2,19 @@
 -- To cite: `position-posted-same`, `position-posted-other`, `posted-comm`, `total-posted`, `total-transferred`,
 -- `size-posted`, `within-posted`. Assumes nothing.
 use mathlib.Core.Path.{_≡_, refl, sym, _∙_, ap}
-use mathlib.Core.Bool.{Bool, true, false, _&&_}
+use mathlib.Core.Bool.{Bool, true, false}
 use mathlib.Core.List.{List, [], _∷_}
 use mathlib.Core.Logic.{_≢_}
-use Prim.Native.Nat.{ℕ, zero, suc, _+_, _*_, _-_, _<_, _≤_}
+use Prim.Native.Nat.{ℕ, zero, suc, _+_, _*_, _-_, _≤_}
 use native.Mathlib.Omega.{arith}
 use borrow.Author.Tests.{leb-true, leb-false, le-leb, eqb-true, eqb-false}
 use lib.Dec.{leb, eqb}
 use lib.IntN.{ℤ, pos, negℤ, natAbs, _+ℤ_, +ℤ-assoc, +ℤ-idl, +ℤ-idr, +ℤ-invr, +ℤ-invl}
-use lib.ListN.{length, getD, set, replicate, length-set, List·getD-eq-default}
-use lib.Seq.{getD-set-same, getD-set-other, set-out, set-set, set-comm, set-getD}
+use lib.ListN.{length, getD, set, length-set, List·getD-eq-default}
+use lib.Seq.{getD-set-same, getD-set-other, set-out, set-getD}
 use Rattle.common.proofs.Tests.{and-halves, and-true, never}
 use Rattle.positions.specs.Positions.{isEntry, Entry, position, posted, transferred, total, zeros, Within}
-use Rattle.positions.proofs.Laws.Integers.{swap-last, add-cancel, cancel-add, size-add, size-neg}
+use Rattle.positions.proofs.Laws.Integers.{swap-last, cancel-add, size-add, size-neg}
 
 -- ---- the entry of a number
 

@@ -1,11 +1,11 @@
 -- Laws of specs/Postings: the two sums of each event are zero, and so the sums of the tables stay.
 -- Names: settlement-, reversed- and refunded- speak of an event; parties-keep and banks-keep of tables posted to.
 -- Assumes nothing.
-use mathlib.Core.Path.{_≡_, refl, sym, _∙_, ap}
+use mathlib.Core.Path.{_≡_, sym, _∙_, ap}
 use mathlib.Core.List.{List}
-use Prim.Native.Nat.{ℕ, zero, suc, _+_, _≤_}
+use Prim.Native.Nat.{ℕ, zero, _+_, _≤_}
 use native.Mathlib.Omega.{arith}
-use lib.IntN.{ℤ, pos, negsuc, negℤ, natAbs, _+ℤ_, +ℤ-assoc, +ℤ-comm, +ℤ-idl, +ℤ-idr, +ℤ-invr, +ℤ-invl, negℤ-+ℤ, negℤ-negℤ}
+use lib.IntN.{ℤ, pos, negℤ, natAbs, _+ℤ_, +ℤ-assoc, +ℤ-comm, +ℤ-idr, +ℤ-invr, +ℤ-invl, negℤ-+ℤ, negℤ-negℤ}
 use Rattle.positions.specs.declared.Postings.{Postings}
 use Rattle.positions.specs.Positions.{Entry, posted, transferred, total}
 use Rattle.positions.specs.Postings.{settlement, opposite, reversed, refunded, partySum, bankSum}

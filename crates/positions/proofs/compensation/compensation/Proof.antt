@@ -1,31 +1,31 @@
+-- `compensation` tests the limits, and rounds the interest within them.
+-- Assumes nothing.
+use Rattle.positions.proofs.Laws.Compensation.{inLimits-parts, interest-fits, compensationOf-is, compensationOf-outside}
+use mathlib.Core.Path.{sym}
+use Rattle.positions.specs.Compensation.{InLimits, compensation}
 use Rattle.positions.proofs.compensation.compensation.Statement.{statement}
 use Rattle.positions.proofs.compensation.compensation.Tie as tie
-use Rattle.positions.proofs.compensation.compensation.Reads as reads
-use Rattle.positions.proofs.compensation.compensation.Lts as lts
 
--- src/compensation.rt:11:48
-mul-t11 : tie.Need-mul-t11
-mul-t11 c = ?
+limits : (c : tie.Then1) → InLimits (c .before .args .amount) (c .before .args .rate) (c .before .args .days)
+limits c = inLimits-parts (c .before .args .amount) (c .before .args .rate) (c .before .args .days) (c .if1 .taken)
 
--- src/compensation.rt:11:48
-mul-t12 : tie.Need-mul-t12
-mul-t12 c = ?
+interest-requires : tie.Need-interest-requires
+interest-requires c κs = limits c
 
--- src/compensation.rt:11:43
-mul-t13 : tie.Need-mul-t13
-mul-t13 c = ?
+half-up-requires : tie.Need-half-up-requires
+half-up-requires c κs =
+    let a = c .before .before .args in
+    rw (c .interest .ensures) (interest-fits (a .amount) (a .rate) (a .days) (limits (c .before)))
 
--- src/compensation.rt:11:43
-add-t14 : tie.Need-add-t14
-add-t14 c = ?
-
--- src/compensation.rt:11:9
 returns : tie.Need-returns
-returns c = ?
+unfolding compensation
+returns c =
+    let a = c .before .before .before .args in
+    let is = compensationOf-is (a .amount) (a .rate) (a .days) (limits (c .before .before)) in
+    rw (c .half-up .ensures, c .before .interest .ensures) (sym is)
 
--- src/compensation.rt:7:1
 returns-2 : tie.Need-returns-2
-returns-2 c = ?
+returns-2 c = sym (compensationOf-outside (c .before .args .amount) (c .before .args .rate) (c .before .args .days) (c .if1 .left))
 
 pub compensation-spec : {M : Type 1} → statement M
-compensation-spec = tie.close (tie.spec mul-t11 mul-t12 mul-t13 add-t14 returns returns-2)
+compensation-spec = tie.close (tie.spec interest-requires half-up-requires returns returns-2)

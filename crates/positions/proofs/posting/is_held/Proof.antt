@@ -8,10 +8,6 @@ use mathlib.Core.Path.{_∙_, ap}
 use borrow.Author.Needs.{needs}
 use Rattle.positions.proofs.posting.is_held.Statement.{statement}
 use Rattle.positions.proofs.posting.is_held.Tie as tie
-use Rattle.positions.proofs.posting.is_held.Reads as reads
-use Rattle.positions.proofs.posting.is_held.Lts as lts
-use Rattle.positions.proofs.posting.in_capacity.Reads as in-capacity-reads
-use Rattle.positions.proofs.posting.position_of.Reads as position-of-reads
 
 position-of-requires : tie.Need-position-of-requires
 position-of-requires c κs = search needs

@@ -11,9 +11,6 @@ use mathlib.Core.Path.{_≡_, sym, _∙_}
 use borrow.Author.Needs.{needs}
 use Rattle.positions.proofs.posting.position_of.Statement.{statement}
 use Rattle.positions.proofs.posting.position_of.Tie as tie
-use Rattle.positions.proofs.posting.position_of.Reads as reads
-use Rattle.positions.proofs.posting.position_of.Lts as lts
-use Rattle.positions.proofs.posting.is_entry.Reads as is-entry-reads
 
 is-entry-requires : tie.Need-is-entry-requires
 is-entry-requires c κs = search needs

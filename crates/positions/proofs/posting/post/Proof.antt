@@ -5,17 +5,11 @@ use Rattle.positions.proofs.Laws.Positions.{isEntry-entry, posted-index
 use Rattle.positions.specs.Positions.{isEntry}
 use Rattle.common.proofs.Tests.{not-true, not-false}
 use mir.Facts.{toZ-ofZ}
-use mathlib.Core.Bool.{true, false, _&&_}
-use mathlib.Core.Path.{_≡_, sym, _∙_, ap}
+use mathlib.Core.Bool.{true, _&&_}
+use mathlib.Core.Path.{_≡_, sym, _∙_}
 use borrow.Author.Needs.{needs}
 use Rattle.positions.proofs.posting.post.Statement.{statement}
 use Rattle.positions.proofs.posting.post.Tie as tie
-use Rattle.positions.proofs.posting.post.Reads as reads
-use Rattle.positions.proofs.posting.post.Lts as lts
-use Rattle.positions.proofs.posting.add.Reads as add-reads
-use Rattle.positions.proofs.posting.in_capacity.Reads as in-capacity-reads
-use Rattle.positions.proofs.posting.is_entry.Reads as is-entry-reads
-use Rattle.positions.proofs.posting.is_held.Reads as is-held-reads
 
 -- the entry that the first test found
 found : (c : tie.Else1) → isEntry (c .before .before .before .args .positions .now) (c .before .before .before .args .number) ≡ true

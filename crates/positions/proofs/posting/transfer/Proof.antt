@@ -9,17 +9,11 @@ use Rattle.positions.specs.Positions.{isEntry, Entry, posted}
 use Rattle.common.proofs.Tests.{not-true, not-false, and-halves}
 use Prim.Native.Nat.{_<_, _^_}
 use mir.Facts.{toZ-ofZ}
-use mathlib.Core.Bool.{true, false, _&&_}
-use mathlib.Core.Path.{_≡_, sym, _∙_, ap}
+use mathlib.Core.Bool.{true, _&&_}
+use mathlib.Core.Path.{_≡_, sym, _∙_}
 use borrow.Author.Needs.{needs}
 use Rattle.positions.proofs.posting.transfer.Statement.{statement}
 use Rattle.positions.proofs.posting.transfer.Tie as tie
-use Rattle.positions.proofs.posting.transfer.Reads as reads
-use Rattle.positions.proofs.posting.transfer.Lts as lts
-use Rattle.positions.proofs.posting.add.Reads as add-reads
-use Rattle.positions.proofs.posting.in_capacity.Reads as in-capacity-reads
-use Rattle.positions.proofs.posting.is_entry.Reads as is-entry-reads
-use Rattle.positions.proofs.posting.is_held.Reads as is-held-reads
 
 -- the entries that the first test looks at
 entries : (c : tie.After-is-entry2) → c .before .before .is-entry .result && c .is-entry2 .result ≡ isEntry (c .before .before .before .before .args .positions .now) (c .before .before .before .before .args .from) && isEntry (c .before .before .before .before .args .positions .now) (c .before .before .before .before .args .to)
@@ -32,11 +26,12 @@ found c = sym (entries (c .before)) ∙ not-false (c .if1 .left)
 sizes : (c : tie.After-in-capacity) → c .before .before .before .is-held .result && c .before .is-held2 .result && c .in-capacity .result ≡ transferSizes (c .before .before .before .before .before .before .before .before .before .before .args .positions .now) (c .before .before .before .before .before .before .before .before .before .before .args .from) (c .before .before .before .before .before .before .before .before .before .before .args .to) (c .before .before .before .before .before .before .before .before .before .before .args .amount)
 sizes c =
     let s = c .before .before .before .before .before .before .before .before .before .before in
-    rw
-    (c .before .before .before .is-held .ensures,
-    c .before .is-held2 .ensures,
-    c .in-capacity .ensures,
-    toZ-ofZ (s .fits .amount))
+    rw (
+      c .before .before .before .is-held .ensures,
+      c .before .is-held2 .ensures,
+      c .in-capacity .ensures,
+      toZ-ofZ (s .fits .amount),
+    )
 
 -- what both tests leave: two entries, and sizes that 64 bits hold
 from-entry : (c : tie.Else2) → Entry (c .before .before .before .before .before .before .before .before .before .before .before .args .positions .now) (c .before .before .before .before .before .before .before .before .before .before .before .args .from)
