@@ -1,0 +1,150 @@
+-- Laws of specs/Answers. Names: F-no-entry, F-too-large and F-made give the answer of F and the table after it.
+-- To cite: `post-fits` and `transfer-fits` (a posting within capacity is made), `settlementOf-is`, `reversedOf-is`,
+-- `refundedOf-is`. Assumes nothing.
+use mathlib.Core.Path.{_≡_, sym, _∙_, ap}
+use mathlib.Core.Bool.{Bool, true, false, _&&_}
+use mathlib.Core.List.{List}
+use Prim.Native.Nat.{ℕ, _+_, _-_, _<_, _≤_}
+use native.Mathlib.Omega.{arith}
+use borrow.Author.Tests.{le-leb, lt-leb}
+use lib.Dec.{leb}
+use lib.IntN.{ℤ, pos, negℤ, natAbs, _+ℤ_, negℤ-negℤ}
+use lib.ListN.{length, getD}
+use mir.Syntax.{w64}
+use mir.Val.{SFits}
+use Rattle.common.proofs.Tests.{and-halves, and-true}
+use Rattle.positions.specs.declared.PostAnswer.the-variants.{Posted, NoEntry, TooLarge}
+use Rattle.positions.specs.declared.PostingsAnswer.the-variants.{Amounts, OutsideLimits}
+use Rattle.positions.specs.Positions.{isEntry, Entry, position, posted, transferred, within}
+use Rattle.positions.specs.Postings.{settlement, reversed, refunded}
+use Rattle.positions.specs.Compensation.{amountLimit}
+use Rattle.positions.specs.Limits.{compensationLimit}
+use Rattle.positions.specs.Answers.{capacity, postAnswer, transferAnswer, afterPost, afterTransfer, settlementOf, reversedOf, refundedOf}
+use Rattle.positions.proofs.Laws.Integers.{size-add, size-neg, within-size, size-within, size-fits}
+use Rattle.positions.proofs.Laws.Positions.{entry-isEntry, entry-posted, position-index, position-posted-same, transferred-posted, size-transferred}
+
+-- ---- as the code finds an entry, at the index k - 1
+
+pub index-held : (l : List ℤ) (k : ℕ) (x : ℤ) → Entry l k → SFits w64 (position l k +ℤ x) → (k - 1 < length l) × SFits w64 (getD l (k - 1) (pos 0) +ℤ x)
+index-held l k x e f = (omega (arith, e .low, e .high), rw (position-index l k (e .low)) at f)
+
+-- ---- post
+
+-- the sizes that a posting looks at
+abbrev pub postSizes : List ℤ → ℕ → ℤ → Bool
+postSizes l k x = within capacity (position l k) && within capacity x
+
+module _ (l : List ℤ) (k : ℕ) (x : ℤ) where
+  pub post-no-entry : isEntry l k ≡ false → (NoEntry ≡ postAnswer l k x) × (l ≡ afterPost l k x)
+  unfolding afterPost postAnswer
+  post-no-entry e = (rw e, rw e)
+
+  pub post-too-large : isEntry l k ≡ true → postSizes l k x ≡ false → (TooLarge ≡ postAnswer l k x) × (l ≡ afterPost l k x)
+  unfolding afterPost postAnswer
+  post-too-large e s = (rw (e, s), rw (e, s))
+
+  pub post-made : isEntry l k ≡ true → postSizes l k x ≡ true → (Posted ≡ postAnswer l k x) × (posted l k x ≡ afterPost l k x)
+  unfolding afterPost postAnswer
+  post-made e s = (rw (e, s), rw (e, s))
+
+  -- 64 bits hold the new position
+  pub post-held : postSizes l k x ≡ true → SFits w64 (position l k +ℤ x)
+  post-held s =
+      let h = and-halves (within capacity (position l k)) s in
+      size-fits (position l k +ℤ x)
+      (omega (
+        arith,
+        size-add (position l k) x,
+        within-size capacity (position l k) (h .0),
+        within-size capacity x (h .1),
+      ))
+
+  -- what a caller shows, and gets
+  pub post-fits : Entry l k → natAbs (position l k) ≤ capacity → natAbs x ≤ capacity → (postAnswer l k x ≡ Posted) × (afterPost l k x ≡ posted l k x)
+  post-fits e p h =
+      let made = post-made (entry-isEntry l k e) (and-true (size-within capacity (position l k) p) (size-within capacity x h)) in
+      (sym (made .0), sym (made .1))
+
+-- ---- transfer
+
+abbrev pub transferSizes : List ℤ → ℕ → ℕ → ℤ → Bool
+transferSizes l from to x =
+    within capacity (position l from) && within capacity (position l to) && within capacity x
+
+module _ (l : List ℤ) (from to : ℕ) (x : ℤ) where
+  pub transfer-no-entry : isEntry l from && isEntry l to ≡ false → (NoEntry ≡ transferAnswer l from to x) × (l ≡ afterTransfer l from to x)
+  unfolding afterTransfer transferAnswer
+  transfer-no-entry e = (rw e, rw e)
+
+  pub transfer-too-large : isEntry l from && isEntry l to ≡ true → transferSizes l from to x ≡ false → (TooLarge ≡ transferAnswer l from to x) × (l ≡ afterTransfer l from to x)
+  unfolding afterTransfer transferAnswer
+  transfer-too-large e s = (rw (e, s), rw (e, s))
+
+  pub transfer-made : isEntry l from && isEntry l to ≡ true → transferSizes l from to x ≡ true → (Posted ≡ transferAnswer l from to x) × (transferred l from to x ≡ afterTransfer l from to x)
+  unfolding afterTransfer transferAnswer
+  transfer-made e s = (rw (e, s), rw (e, s))
+
+  sizes-small : transferSizes l from to x ≡ true → (natAbs (position l from) ≤ capacity) × (natAbs (position l to) ≤ capacity) × (natAbs x ≤ capacity)
+  sizes-small s =
+      let h = and-halves (within capacity (position l from) && within capacity (position l to)) s in
+      let g = and-halves (within capacity (position l from)) (h .0) in
+      (within-size capacity (position l from) (g .0), within-size capacity (position l to) (g .1), within-size capacity x (h .1))
+
+  pub transfer-amount : transferSizes l from to x ≡ true → natAbs x ≤ capacity
+  transfer-amount s = sizes-small s .2
+
+  -- 64 bits hold both new positions, the second after the first
+  pub transfer-held-from : transferSizes l from to x ≡ true → SFits w64 (position l from +ℤ negℤ x)
+  transfer-held-from s =
+      let h = sizes-small s in
+      size-fits (position l from +ℤ negℤ x) (omega (arith, size-add (position l from) (negℤ x), size-neg x))
+
+  pub transfer-held-to : Entry l to → transferSizes l from to x ≡ true → SFits w64 (position (posted l from (negℤ x)) to +ℤ x)
+  transfer-held-to e s =
+      let h = sizes-small s in
+      let read = position-posted-same (posted l from (negℤ x)) to x (entry-posted l from to (negℤ x) e) in
+      let after = ap (λ (t : List ℤ). position t to) (transferred-posted l from to x) in
+      size-fits (position (posted l from (negℤ x)) to +ℤ x)
+      (omega (arith, size-transferred l from to to x, ap natAbs (after ∙ read)))
+
+  pub transfer-fits : Entry l from → Entry l to → natAbs (position l from) ≤ capacity → natAbs (position l to) ≤ capacity → natAbs x ≤ capacity → (transferAnswer l from to x ≡ Posted) × (afterTransfer l from to x ≡ transferred l from to x)
+  transfer-fits f t p q h =
+      let sizes = and-true (and-true (size-within capacity (position l from) p) (size-within capacity (position l to) q)) (size-within capacity x h) in
+      let made = transfer-made (and-true (entry-isEntry l from f) (entry-isEntry l to t)) sizes in
+      (sym (made .0), sym (made .1))
+
+-- ---- what an event posts
+
+pub settlementOf-is : (A : ℕ) → A ≤ amountLimit → settlementOf A ≡ Amounts (settlement A)
+unfolding settlementOf
+settlementOf-is A h = rw (le-leb A amountLimit h)
+
+pub settlementOf-outside : (A : ℕ) → amountLimit < A → settlementOf A ≡ OutsideLimits
+unfolding settlementOf
+settlementOf-outside A h = rw (lt-leb A amountLimit h)
+
+pub reversedOf-is : (A : ℕ) → A ≤ amountLimit → reversedOf A ≡ Amounts (reversed A)
+unfolding reversedOf
+reversedOf-is A h = rw (le-leb A amountLimit h)
+
+pub reversedOf-outside : (A : ℕ) → amountLimit < A → reversedOf A ≡ OutsideLimits
+unfolding reversedOf
+reversedOf-outside A h = rw (lt-leb A amountLimit h)
+
+pub refundedOf-is : (A K : ℕ) → A ≤ amountLimit → K ≤ compensationLimit → refundedOf A K ≡ Amounts (refunded A K)
+unfolding refundedOf
+refundedOf-is A K h k = rw (le-leb A amountLimit h, le-leb K compensationLimit k)
+
+pub refundedOf-outside : (A K : ℕ) → leb A amountLimit && leb K compensationLimit ≡ false → refundedOf A K ≡ OutsideLimits
+unfolding refundedOf
+refundedOf-outside A K e = rw e
+
+-- the amounts as the code makes them, from the 64 bits of what is added and of what is taken
+pub settlement-amounts : (A : ℕ) (plus minus : ℤ) → plus ≡ pos A → minus ≡ negℤ (pos A) → A ≤ amountLimit → Amounts (record { debtor = minus; creditor = plus; dbank = minus; cbank = plus; compensation = pos 0 }) ≡ settlementOf A
+settlement-amounts A plus minus p m h = rw (p, m) (sym (settlementOf-is A h))
+
+pub reversed-amounts : (A : ℕ) (plus minus : ℤ) → plus ≡ pos A → minus ≡ negℤ (pos A) → A ≤ amountLimit → Amounts (record { debtor = plus; creditor = minus; dbank = plus; cbank = minus; compensation = pos 0 }) ≡ reversedOf A
+reversed-amounts A plus minus p m h = rw (p, m, reversedOf-is A h, negℤ-negℤ (pos A))
+
+pub refunded-amounts : (A K : ℕ) (back plus minus cents : ℤ) → back ≡ pos A → plus ≡ pos (A + K) → minus ≡ negℤ (pos (A + K)) → cents ≡ pos K → A ≤ amountLimit → K ≤ compensationLimit → Amounts (record { debtor = back; creditor = minus; dbank = plus; cbank = minus; compensation = cents }) ≡ refundedOf A K
+refunded-amounts A K back plus minus cents b p m c h k = rw (b, p, m, c) (sym (refundedOf-is A K h k))

@@ -1,0 +1,26 @@
+-- How far the postings of all rows can carry a position. Document 01, "Records" and "Ten events": up to 16,384 rows, each
+-- of which posts to a position when it is settled and once more when it is undone. Assumes nothing.
+use Prim.Native.Nat.{ℕ, _+_}
+use Rattle.positions.specs.Compensation.{amountLimit}
+
+-- the collection rows that may be lent
+abbrev pub rowLimit : ℕ
+rowLimit = 16384
+
+-- the largest compensation: that of the largest amount, rate and number of days
+abbrev pub compensationLimit : ℕ
+compensationLimit = 277472249997
+
+-- what one row moves a position by at most: A when settled, A + K when undone
+abbrev pub rowMove : ℕ
+rowMove = amountLimit + (amountLimit + compensationLimit)
+
+-- ---- with the days of a refund in time
+
+-- 13 months, 30 days and 4 business days are no more than 403, 30 and 20 days
+abbrev pub refundDays : ℕ
+refundDays = 453
+
+-- the largest compensation of a refund in time
+abbrev pub refundLimit : ℕ
+refundLimit = 125820749999

@@ -1,0 +1,45 @@
+-- What an event of money posts. Document 01, "Postings"; A is the amount of the collection and K the compensation.
+-- The effect on the tables and the journal both take these amounts. Assumes nothing.
+use Prim.Native.Nat.{ℕ, _+_}
+use lib.IntN.{ℤ, pos, negℤ, _+ℤ_}
+use Rattle.positions.specs.declared.Postings.{Postings}
+
+abbrev pub settlement : ℕ → Postings
+settlement A = record {
+  debtor = negℤ (pos A);
+  creditor = pos A;
+  dbank = negℤ (pos A);
+  cbank = pos A;
+  compensation = pos 0;
+}
+
+-- each amount with the other sign
+abbrev pub opposite : Postings → Postings
+opposite p = record {
+  debtor = negℤ (p .debtor);
+  creditor = negℤ (p .creditor);
+  dbank = negℤ (p .dbank);
+  cbank = negℤ (p .cbank);
+  compensation = negℤ (p .compensation);
+}
+
+-- of a return and of a reversal
+abbrev pub reversed : ℕ → Postings
+reversed A = opposite (settlement A)
+
+abbrev pub refunded : ℕ → ℕ → Postings
+refunded A K = record {
+  debtor = pos A;
+  creditor = negℤ (pos (A + K));
+  dbank = pos (A + K);
+  cbank = negℤ (pos (A + K));
+  compensation = pos K;
+}
+
+-- ---- what is promised of each: both sums are zero
+
+abbrev pub partySum : Postings → ℤ
+partySum p = p .debtor +ℤ p .creditor +ℤ p .compensation
+
+abbrev pub bankSum : Postings → ℤ
+bankSum p = p .dbank +ℤ p .cbank
