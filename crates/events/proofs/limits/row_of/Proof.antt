@@ -1,3 +1,14 @@
+-- `row_of` looks at the rows in their order: what is found behind row i is what is found in the whole table.
+-- Assumes nothing.
+use Rattle.events.proofs.Laws.Limits.{rowIn-hit, rowIn-miss, rowIn-none}
+use mathlib.Core.Path.{refl}
+use lib.Dec.{lit≤}
+use borrow.Author.Needs.{needs}
+use lib.ListN.{length, drop}
+use mathlib.Core.Path.{_≡_, sym, _∙_}
+use native.Mathlib.Omega.{arith}
+use Prim.Native.Nat.{_≤_, _-_}
+use Rattle.events.specs.Limits.{table, noRow, rowIn, rowOf}
 use Rattle.events.proofs.limits.row_of.Statement.{statement}
 use Rattle.events.proofs.limits.row_of.Tie as tie
 use Rattle.events.proofs.limits.row_of.Reads as reads
@@ -6,42 +17,48 @@ use Rattle.events.proofs.limits.row_at.Reads as row-at-reads
 use Rattle.events.proofs.limits.within.Reads as within-reads
 
 abbrev Inv-loop : tie.InvT-loop
-Inv-loop kind code i₀ i = ?
+Inv-loop kind code i₀ i = (i ≤ length table) × (rowIn (drop i table) kind code ≡ rowOf kind code)
 
 abbrev μ-loop : tie.MeasureT-loop
-μ-loop kind code i₀ i = ?
+μ-loop kind code i₀ i = length table - i
 
--- src/limits.rt:255:5
 loop-holds : tie.Need-loop-holds Inv-loop μ-loop
-loop-holds c = ?
+unfolding rowOf table
+loop-holds c = (search needs, refl)
 
--- src/limits.rt:256:13
 row-at-requires : tie.Need-row-at-requires Inv-loop μ-loop
-row-at-requires c κs = ?
+unfolding table
+row-at-requires c κs = search needs
 
--- src/limits.rt:258:33
 within-requires : tie.Need-within-requires Inv-loop μ-loop
-within-requires c κs = ?
+within-requires c κs = search needs
 
--- src/limits.rt:259:13
 returns : tie.Need-returns Inv-loop μ-loop
-returns c = ?
+unfolding table
+returns c =
+    sym (rowIn-hit table _ _ _ _ (c .before .before .before .before .before .loop-test .taken) (c .before .before .before .before .row-at .ensures) (rw (c .before .within .ensures) at (c .if1 .taken)))
+    ∙ c .before .before .before .before .before .before .loop .inv .1
 
--- src/limits.rt:261:9
 add-i : tie.Need-add-i Inv-loop μ-loop
-add-i c = ?
+unfolding table
+add-i c = search needs
 
--- src/limits.rt:255:5
 loop-less : tie.Need-loop-less Inv-loop μ-loop
-loop-less c = ?
+unfolding table
+loop-less c = search needs
 
--- src/limits.rt:255:5
 loop-again : tie.Need-loop-again Inv-loop μ-loop
-loop-again c = ?
+unfolding table
+loop-again c =
+    (
+      search needs,
+      sym (rowIn-miss table _ _ _ _ (c .before .before .before .before .before .loop-test .taken) (c .before .before .before .before .row-at .ensures) (rw (c .before .within .ensures) at (c .if1 .left)))
+          ∙ c .before .before .before .before .before .before .loop .inv .1,
+    )
 
--- src/limits.rt:251:1
 returns-2 : tie.Need-returns-2 Inv-loop μ-loop
-returns-2 c = ?
+unfolding table
+returns-2 c = sym (rowIn-none table _ _ _ (c .loop-test .left)) ∙ c .before .loop .inv .1
 
 pub row-of-spec : {M : Type 1} → statement M
 row-of-spec =
