@@ -105,6 +105,18 @@ rowIn-is-of (r ∷ rs) kind code s e =
     (λ q. rowIn-is-of rs kind code s q)
     (cond-found (isOf kind code r) r s (rowIn rs kind code) e)
 
+-- the same of the whole table
+pub rowOf-every : (f : Row → Bool) (kind code : ℕ) (s : Row)
+    → everyRow f table ≡ true
+    → rowOf kind code ≡ Found s
+    → f s ≡ true
+unfolding rowOf
+rowOf-every f kind code s t e = rowIn-every f table kind code s t e
+
+pub rowOf-codes : (kind code : ℕ) (s : Row) → rowOf kind code ≡ Found s → Between (s .codes) code
+unfolding rowOf
+rowOf-codes kind code s e = within-between _ _ (and-halves (eqb (s .kind) kind) (rowIn-is-of table kind code s e) .1)
+
 -- ---- refusals 3, 4 and 5
 
 cond-within : (b : Bool) (x : Checked) (r : Refusal) → cond b x (Refused r) ≡ Within → (b ≡ true) × (x ≡ Within)
@@ -154,6 +166,12 @@ row-facts r e t =
       amount = within-between _ _ (p4 .1);
       second = p5 .1;
     }
+
+-- a second date is 0 or a date in range
+pub second-le : (s : SecondDate) (d x : ℕ) → secondFits s d x ≡ true → x ≤ lastDate
+second-le NoSecond d x t = let e = eqb-true x 0 t in omega arith
+second-le Dated d x t = range-facts x t .to
+second-le NotAfter d x t = range-facts x (and-halves (inRange x) t .0) .to
 
 -- what an event within its limits has
 pub record Limited (e : Event) : Type 0 where
