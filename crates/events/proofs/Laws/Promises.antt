@@ -1,0 +1,121 @@
+-- The promises of specs/Promises, proved: each theorem has the name of its statement. Assumes nothing.
+use mathlib.Core.Path.{_≡_, refl, sym, _∙_, ap, subst}
+use mathlib.Core.Bool.{Bool, true, false, cond, _&&_}
+use mathlib.Core.List.{List, [], _∷_, _++_, append-nil}
+use Prim.Native.Nat.{ℕ, suc, _+_, _≤_}
+use native.Mathlib.Omega.{arith}
+use lib.Dec.{leb, eqb}
+use lib.ListN.{length, take, drop, getD, length-append, length-drop, take-append-drop, drop-of-length-le}
+use lib.Seq.{drop-cons, take-at, getD-at}
+use borrow.Author.Tests.{leb-true, le-leb, eqb-true, eq-eqb}
+use Rattle.common.proofs.Tests.{and-halves, and-true}
+use Rattle.refusals.specs.declared.Refusal.{Refusal}
+use Rattle.refusals.specs.declared.Refusal.the-variants.{BadLine, UnfitMemory}
+use Rattle.events.specs.declared.Event.{Event}
+use Rattle.events.specs.declared.limits.Checked.{Checked}
+use Rattle.events.specs.declared.limits.Checked.the-variants.{Within, Refused}
+use Rattle.events.specs.declared.line.LineAnswer.{LineAnswer}
+use Rattle.events.specs.declared.line.LineAnswer.the-variants as lines
+use Rattle.events.specs.declared.line.WriteAnswer.{WriteAnswer}
+use Rattle.events.specs.declared.line.WriteAnswer.the-variants as writes
+use Rattle.events.specs.Limits.{checked}
+use Rattle.events.specs.Line.{widths, fieldsOf, eventOf, columns, lineLength, lineEnd, fieldsBytes, lineOf, Fields, Values, Unreadable, readFields, answerOf, taken, readLine, writtenOf, writeAnswer, bytesBy, bytesAfter}
+use Rattle.events.specs.Promises.{LineHasItsLength, ReadsWhatWasWritten, WritesWhatWasRead, OnlyWithinIsTaken, EveryEventHasALine, NoEventHasTwoLines, NoLineHasTwoEvents}
+use Rattle.events.proofs.Laws.Limits.{checked-facts}
+use Rattle.events.proofs.Laws.Line.{length-fieldsBytes, readFields-fieldsBytes, fieldsBytes-readFields, narrow-fields, fieldsOf-eventOf}
+
+length-columns : (e : Event) → length (fieldsBytes widths (fieldsOf e)) ≡ columns
+length-columns e = length-fieldsBytes widths (fieldsOf e) refl
+
+pub line-has-its-length : LineHasItsLength
+unfolding lineOf
+line-has-its-length e = length-append (fieldsBytes widths (fieldsOf e)) (lineEnd ∷ []) ∙ ap (λ (n : ℕ). n + 1) (length-columns e)
+
+pub every-event-has-a-line : EveryEventHasALine
+unfolding lineOf readLine
+every-event-has-a-line e h =
+    let l : List ℕ = fieldsBytes widths (fieldsOf e) ++ (lineEnd ∷ []) in
+    let n : length l ≡ lineLength = line-has-its-length e in
+    let g : getD l columns 0 ≡ lineEnd = getD-at (fieldsBytes widths (fieldsOf e)) lineEnd [] 0 columns (length-columns e) in
+    let f : readFields widths 0 l ≡ Values (fieldsOf e) =
+        readFields-fieldsBytes widths (fieldsOf e) [] (lineEnd ∷ []) 0 refl (narrow-fields e (checked-facts e h)) in
+    rw (and-true (eq-eqb (length l) lineLength n) (eq-eqb (getD l columns 0) lineEnd g), f, h)
+
+-- what a line that was taken is
+record Read (l : List ℕ) (e : Event) : Type 0 where
+  long : length l ≡ lineLength
+  ended : getD l columns 0 ≡ lineEnd
+  values : List ℕ
+  fields : readFields widths 0 l ≡ Values values
+  event : eventOf values ≡ e
+  within : checked e ≡ Within
+
+cond-taken : (b : Bool) (x : LineAnswer) (e : Event) → cond b x (lines.Refused BadLine) ≡ lines.Taken e → (b ≡ true) × (x ≡ lines.Taken e)
+cond-taken true x e t = (refl, t)
+cond-taken false x e t = let z : _≡_ {A = ℕ} 0 1 = cc in absurd (omega arith)
+
+answerOf-taken : (f e : Event) (c : Checked) → answerOf f c ≡ lines.Taken e → (c ≡ Within) × (f ≡ e)
+answerOf-taken f e Within t = (refl, cc)
+answerOf-taken f e (Refused r) t = let z : _≡_ {A = ℕ} 0 1 = cc in absurd (omega arith)
+
+record Held (f : Fields) (e : Event) : Type 0 where
+  values : List ℕ
+  fields : f ≡ Values values
+  event : eventOf values ≡ e
+  within : checked e ≡ Within
+
+taken-held : (f : Fields) (e : Event) → taken f ≡ lines.Taken e → Held f e
+taken-held Unreadable e t = let z : _≡_ {A = ℕ} 0 1 = cc in absurd (omega arith)
+taken-held (Values vs) e t =
+    let p = answerOf-taken (eventOf vs) e (checked (eventOf vs)) t in
+    record { values = vs; fields = refl; event = p .1; within = ap checked (sym (p .1)) ∙ p .0 }
+
+read-facts : (l : List ℕ) (e : Event) → readLine l ≡ lines.Taken e → Read l e
+unfolding readLine
+read-facts l e t =
+    let p = cond-taken (eqb (length l) lineLength && eqb (getD l columns 0) lineEnd) _ e t in
+    let q = and-halves (eqb (length l) lineLength) (p .0) in
+    let f = taken-held (readFields widths 0 l) e (p .1) in
+    record {
+      long = eqb-true _ _ (q .0);
+      ended = eqb-true _ _ (q .1);
+      values = f .values;
+      fields = f .fields;
+      event = f .event;
+      within = f .within;
+    }
+
+pub only-within-is-taken : OnlyWithinIsTaken
+only-within-is-taken l e t = read-facts l e t .within
+
+pub no-event-has-two-lines : NoEventHasTwoLines
+unfolding lineOf
+no-event-has-two-lines l e t =
+    let r = read-facts l e t in
+    let w = fieldsBytes-readFields widths 0 l (r .values) (omega (arith, r .long)) (r .fields) in
+    let f : fieldsOf e ≡ r .values = ap fieldsOf (sym (r .event)) ∙ fieldsOf-eventOf (r .values) (w .0) in
+    let d : drop columns l ≡ lineEnd ∷ [] =
+        drop-cons l columns 0 (omega (arith, r .long))
+        ∙ rw (r .ended, drop-of-length-le l {i = suc columns} (omega (arith, r .long))) in
+    sym (take-append-drop columns l)
+    ∙ ap (λ (s : List ℕ). take columns l ++ s) d
+    ∙ ap (λ (s : List ℕ). s ++ (lineEnd ∷ [])) (sym (w .1) ∙ ap (fieldsBytes widths) (sym f))
+
+pub no-line-has-two-events : NoLineHasTwoEvents
+no-line-has-two-events e f p q t =
+    let s : lines.Taken e ≡ lines.Taken f = sym (every-event-has-a-line e p) ∙ ap readLine t ∙ every-event-has-a-line f q in
+    cc
+
+-- the writer takes every event within its limits where the buffer has room
+written : (e : Event) (out : List ℕ) → checked e ≡ Within → lineLength ≤ length out → bytesAfter e out ≡ lineOf e ++ drop lineLength out
+unfolding bytesAfter writeAnswer checked
+written e out p h = rw (le-leb lineLength (length out) h, p)
+
+pub reads-what-was-written : ReadsWhatWasWritten
+reads-what-was-written e out p h =
+    rw (written e out p h, take-at (lineOf e) (drop lineLength out) lineLength (line-has-its-length e)) (every-event-has-a-line e p)
+
+pub writes-what-was-read : WritesWhatWasRead
+writes-what-was-read l e out t h =
+    written e out (only-within-is-taken l e t) h
+    ∙ ap (λ (s : List ℕ). s ++ drop lineLength out) (sym (no-event-has-two-lines l e t))

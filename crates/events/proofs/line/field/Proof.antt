@@ -1,0 +1,35 @@
+use borrow.Author.Needs.{needs}
+use Rattle.events.proofs.line.field.Statement.{statement}
+use Rattle.events.proofs.line.field.Tie as tie
+use Rattle.events.proofs.line.field.Reads as reads
+use Rattle.events.proofs.line.field.Lts as lts
+use Rattle.events.proofs.line.number.Reads as number-reads
+
+-- src/line.rt:103:15
+add-end : tie.Need-add-end
+add-end c = search needs
+
+-- src/line.rt:104:12
+sub-number : tie.Need-sub-number
+sub-number c = search needs
+
+-- src/line.rt:104:12
+part-number-start : tie.Need-part-number-start
+part-number-start c = search needs
+
+-- src/line.rt:104:12
+part-number-end : tie.Need-part-number-end
+part-number-end c = search needs
+
+-- src/line.rt:104:5
+number-requires : tie.Need-number-requires
+number-requires c κs = search needs
+
+-- src/line.rt:99:1
+returns : tie.Need-returns
+returns c = ?
+
+pub field-spec : {M : Type 1} → statement M
+field-spec =
+    tie.close
+    (tie.spec add-end sub-number part-number-start part-number-end number-requires returns)

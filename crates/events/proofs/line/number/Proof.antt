@@ -1,0 +1,47 @@
+use borrow.Author.Needs.{needs}
+use Rattle.events.proofs.line.number.Statement.{statement}
+use Rattle.events.proofs.line.number.Tie as tie
+use Rattle.events.proofs.line.number.Reads as reads
+use Rattle.events.proofs.line.number.Lts as lts
+use Rattle.events.proofs.line.blanks.Reads as blanks-reads
+use Rattle.events.proofs.line.digits.Reads as digits-reads
+
+-- src/line.rt:88:9
+blanks-requires : tie.Need-blanks-requires
+blanks-requires c κs = search needs
+
+-- src/line.rt:90:13
+shared-slice-read-if2 : tie.Need-shared-slice-read-if2
+shared-slice-read-if2 c = search needs
+
+-- src/line.rt:90:38
+add-if2 : tie.Need-add-if2
+add-if2 c = search needs
+
+-- src/line.rt:91:13
+returns : tie.Need-returns
+returns c = ?
+
+-- src/line.rt:93:9
+digits-requires : tie.Need-digits-requires
+digits-requires c κs = search needs
+
+-- src/line.rt:93:9
+returns-2 : tie.Need-returns-2
+returns-2 c = ?
+
+-- src/line.rt:84:1
+returns-3 : tie.Need-returns-3
+returns-3 c = ?
+
+pub number-spec : {M : Type 1} → statement M
+number-spec =
+    tie.close
+    (tie.spec
+    blanks-requires
+    shared-slice-read-if2
+    add-if2
+    returns
+    digits-requires
+    returns-2
+    returns-3)

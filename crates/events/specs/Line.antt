@@ -1,0 +1,166 @@
+-- The text line. Document 01, "The text line", and refusals 1 and 2.
+-- Bytes are numbers. `lineOf` is the line of an event, `readLine` what a list of bytes says. Assumes nothing.
+use Prim.Native.Nat.{ℕ, zero, suc, _+_, _-_, _*_, _/_, _%_}
+use mathlib.Core.Bool.{Bool, cond, _&&_}
+use mathlib.Core.List.{List, [], _∷_, _++_}
+use lib.Dec.{leb, ltb, eqb}
+use lib.ListN.{length, take, drop, getD}
+use Rattle.common.specs.Checks.{check, judged}
+use Rattle.refusals.specs.declared.Refusal.the-variants.{BadLine, UnfitMemory}
+use Rattle.events.specs.declared.Event.{Event}
+use Rattle.events.specs.declared.limits.Checked.{Checked}
+use Rattle.events.specs.declared.limits.Checked.the-variants.{Within, Refused}
+use Rattle.events.specs.declared.line.FieldAnswer.{FieldAnswer}
+use Rattle.events.specs.declared.line.FieldAnswer.the-variants.{Value, NoValue}
+use Rattle.events.specs.declared.line.LineAnswer.{LineAnswer}
+use Rattle.events.specs.declared.line.LineAnswer.the-variants as lines
+use Rattle.events.specs.declared.line.WriteAnswer.{WriteAnswer}
+use Rattle.events.specs.declared.line.WriteAnswer.the-variants as writes
+use Rattle.events.specs.Limits.{checks, checked}
+
+-- ---- the columns
+
+-- of kind, date, mandate, a, b, c, amount, second date, code
+abbrev pub widths : List ℕ
+widths = 2 ∷ 9 ∷ 10 ∷ 10 ∷ 10 ∷ 10 ∷ 12 ∷ 9 ∷ 2 ∷ []
+
+abbrev pub fieldsOf : Event → List ℕ
+fieldsOf e =
+    e .kind
+    ∷ e .date
+    ∷ e .mandate
+    ∷ e .a
+    ∷ e .b
+    ∷ e .c
+    ∷ e .amount
+    ∷ e .second
+    ∷ e .code
+    ∷ []
+
+abbrev pub eventOf : List ℕ → Event
+eventOf vs = record {
+  kind = getD vs 0 0;
+  date = getD vs 1 0;
+  mandate = getD vs 2 0;
+  a = getD vs 3 0;
+  b = getD vs 4 0;
+  c = getD vs 5 0;
+  amount = getD vs 6 0;
+  second = getD vs 7 0;
+  code = getD vs 8 0;
+}
+
+-- the columns of the nine fields
+abbrev pub columns : ℕ
+columns = 74
+
+-- the columns and the byte that ends them
+abbrev pub lineLength : ℕ
+lineLength = columns + 1
+
+abbrev pub lineEnd : ℕ
+lineEnd = 10
+
+abbrev pub blank : ℕ
+blank = 32
+
+-- the byte of the digit 0
+abbrev pub zeroDigit : ℕ
+zeroDigit = 48
+
+-- ---- the line of an event
+
+-- the byte of a number's last digit
+abbrev pub lastDigit : ℕ → ℕ
+lastDigit v = zeroDigit + v % 10
+
+-- a number above 0 to the right edge of w columns, and blanks before it; 0 is all blanks
+unfoldable pub padded : ℕ → ℕ → List ℕ
+padded zero v = []
+padded (suc w) v = padded w (v / 10) ++ (cond (eqb v 0) blank (lastDigit v) ∷ [])
+
+-- a field of w columns: a number to its right edge, at least one digit, and blanks before it
+unfoldable pub fieldBytes : ℕ → ℕ → List ℕ
+fieldBytes zero v = []
+fieldBytes (suc w) v = padded w (v / 10) ++ (lastDigit v ∷ [])
+
+-- fields one after the other, by their widths
+abbrev pub fieldsBytes : List ℕ → List ℕ → List ℕ
+fieldsBytes [] vs = []
+fieldsBytes (w ∷ ws) [] = []
+fieldsBytes (w ∷ ws) (v ∷ vs) = fieldBytes w v ++ fieldsBytes ws vs
+
+unfoldable pub lineOf : Event → List ℕ
+lineOf e = fieldsBytes widths (fieldsOf e) ++ (lineEnd ∷ [])
+
+-- ---- reading
+
+abbrev pub isDigit : ℕ → Bool
+isDigit b = leb zeroDigit b && leb b 57
+
+-- digits to the right edge, after those that came to v
+unfoldable pub readDigits : ℕ → List ℕ → FieldAnswer
+readDigits v [] = Value v
+readDigits v (b ∷ bs) = cond (isDigit b) (readDigits (v * 10 + (b - zeroDigit)) bs) NoValue
+
+-- at least one digit; a zero leads only where it stands alone
+unfoldable pub readNumber : List ℕ → FieldAnswer
+readNumber [] = NoValue
+readNumber (b ∷ bs) = cond (eqb b zeroDigit && ltb 0 (length bs)) NoValue (readDigits 0 (b ∷ bs))
+
+-- blanks, then a number
+unfoldable pub readField : List ℕ → FieldAnswer
+readField [] = NoValue
+readField (b ∷ bs) = cond (eqb b blank) (readField bs) (readNumber (b ∷ bs))
+
+-- the fields of a line, or none where one of them cannot be read
+pub data Fields : Type 0 where
+  Values : List ℕ → Fields
+  Unreadable : Fields
+
+abbrev pub joined : FieldAnswer → Fields → Fields
+joined NoValue vs = Unreadable
+joined (Value v) Unreadable = Unreadable
+joined (Value v) (Values vs) = Values (v ∷ vs)
+
+-- the fields that stand in l one after the other from a place on, by their widths
+abbrev pub readFields : List ℕ → ℕ → List ℕ → Fields
+readFields [] at l = Values []
+readFields (w ∷ ws) at l = joined (readField (take w (drop at l))) (readFields ws (at + w) l)
+
+-- an event that was read is within its limits, or is refused by 3, 4 or 5
+abbrev pub answerOf : Event → Checked → LineAnswer
+answerOf e Within = lines.Taken e
+answerOf e (Refused r) = lines.Refused r
+
+abbrev pub taken : Fields → LineAnswer
+taken Unreadable = lines.Refused BadLine
+taken (Values vs) = answerOf (eventOf vs) (checked (eventOf vs))
+
+unfoldable pub readLine : List ℕ → LineAnswer
+readLine l =
+    cond (eqb (length l) lineLength && eqb (getD l columns 0) lineEnd)
+    (taken (readFields widths 0 l))
+    (lines.Refused BadLine)
+
+-- ---- writing to a lent buffer
+
+abbrev pub writtenOf : Checked → WriteAnswer
+writtenOf Within = writes.Written
+writtenOf (Refused r) = writes.Refused r
+
+-- a buffer after the bytes s were written to it from a place on
+abbrev pub pasted : ℕ → List ℕ → List ℕ → List ℕ
+pasted at s out = take at out ++ (s ++ drop (at + length s) out)
+
+-- 2, then 3, 4 and 5
+unfoldable pub writeAnswer : Event → List ℕ → WriteAnswer
+writeAnswer e out = writtenOf (judged (check (leb lineLength (length out)) (Refused UnfitMemory) ∷ checks e) Within)
+
+abbrev pub bytesBy : WriteAnswer → Event → List ℕ → List ℕ
+bytesBy writes.Written e out = lineOf e ++ drop lineLength out
+bytesBy (writes.Refused r) e out = out
+
+-- the buffer after the call: the line and then its own bytes, or as it was
+unfoldable pub bytesAfter : Event → List ℕ → List ℕ
+bytesAfter e out = bytesBy (writeAnswer e out) e out

@@ -1,0 +1,318 @@
+// The limits of an event's fields: specs/Limits.
+ghost use mathlib.Core.Path.{_≡_};
+ghost use Prim.Native.Nat.{_<_};
+ghost use lib.ListN.{length, getD};
+ghost use Rattle.events.specs.Limits.{within, table, noRow, rowOf, secondFits, rowFits, fieldsFit, checked};
+use crate::Event;
+use refusals::Refusal;
+
+// A range of numbers, both ends included.
+pub struct Range {
+    pub low: u64,
+    pub high: u64,
+}
+
+// What the second date may be.
+pub enum SecondDate {
+    // 0
+    NoSecond,
+    // a date in range
+    Dated,
+    // a date in range and not after the event date
+    NotAfter,
+}
+
+// The limits of the events of one kind with one of some codes.
+pub struct Row {
+    pub kind: u64,
+    pub codes: Range,
+    pub mandate: Range,
+    pub a: Range,
+    pub b: Range,
+    pub c: Range,
+    pub amount: Range,
+    pub second: SecondDate,
+}
+
+pub enum RowAnswer {
+    Found(Row),
+    NoRow,
+}
+
+// Whether an event is within its limits.
+pub enum Checked {
+    Within,
+    Refused(Refusal),
+}
+
+pub const CREDITORS: u64 = 256;
+
+pub const DEBTORS: u64 = 4096;
+
+pub const BANKS: u64 = 64;
+// The largest number of a mandate or a collection.
+pub const LAST_NUMBER: u64 = 999_999_999;
+
+pub const LAST_KIND: u64 = 10;
+// In cents.
+pub const LAST_AMOUNT: u64 = 99_999_999_999;
+// In hundredths of a percent a year.
+pub const LAST_RATE: u64 = 9_999;
+
+const KINDS: Range = Range {
+    low: 1,
+    high: LAST_KIND,
+};
+// A field that the kind and code do not name.
+const UNNAMED: Range = Range { low: 0, high: 0 };
+
+const CREDITOR: Range = Range {
+    low: 1,
+    high: CREDITORS,
+};
+
+const DEBTOR: Range = Range {
+    low: 1,
+    high: DEBTORS,
+};
+
+const BANK: Range = Range {
+    low: 1,
+    high: BANKS,
+};
+// A mandate or a collection.
+const NUMBER: Range = Range {
+    low: 1,
+    high: LAST_NUMBER,
+};
+
+const CENTS: Range = Range {
+    low: 1,
+    high: LAST_AMOUNT,
+};
+
+const RATE: Range = Range {
+    low: 0,
+    high: LAST_RATE,
+};
+
+const MANDATE_CODES: Range = Range { low: 0, high: 1 };
+
+const SEQUENCE_CODES: Range = Range { low: 0, high: 3 };
+
+const REFUND_CODES: Range = Range { low: 0, high: 1 };
+
+const CODE_0: Range = Range { low: 0, high: 0 };
+
+const CODE_1: Range = Range { low: 1, high: 1 };
+
+const ROWS: usize = 11;
+
+// A row for each kind and its codes, as in specs/Limits.
+const TABLE: [Row; ROWS] = [
+    // a creditor
+    Row {
+        kind: 1,
+        codes: UNNAMED,
+        mandate: UNNAMED,
+        a: CREDITOR,
+        b: BANK,
+        c: UNNAMED,
+        amount: UNNAMED,
+        second: SecondDate::NoSecond,
+    },
+    // a mandate
+    Row {
+        kind: 2,
+        codes: MANDATE_CODES,
+        mandate: NUMBER,
+        a: CREDITOR,
+        b: DEBTOR,
+        c: BANK,
+        amount: UNNAMED,
+        second: SecondDate::NotAfter,
+    },
+    // amend: a new debtor bank
+    Row {
+        kind: 3,
+        codes: CODE_0,
+        mandate: NUMBER,
+        a: UNNAMED,
+        b: UNNAMED,
+        c: BANK,
+        amount: UNNAMED,
+        second: SecondDate::NoSecond,
+    },
+    // amend: a new creditor
+    Row {
+        kind: 3,
+        codes: CODE_1,
+        mandate: NUMBER,
+        a: CREDITOR,
+        b: UNNAMED,
+        c: UNNAMED,
+        amount: UNNAMED,
+        second: SecondDate::NoSecond,
+    },
+    // cancel
+    Row {
+        kind: 4,
+        codes: UNNAMED,
+        mandate: NUMBER,
+        a: UNNAMED,
+        b: UNNAMED,
+        c: UNNAMED,
+        amount: UNNAMED,
+        second: SecondDate::NoSecond,
+    },
+    // collect
+    Row {
+        kind: 5,
+        codes: SEQUENCE_CODES,
+        mandate: NUMBER,
+        a: NUMBER,
+        b: UNNAMED,
+        c: UNNAMED,
+        amount: CENTS,
+        second: SecondDate::Dated,
+    },
+    // settle
+    Row {
+        kind: 6,
+        codes: UNNAMED,
+        mandate: UNNAMED,
+        a: NUMBER,
+        b: UNNAMED,
+        c: UNNAMED,
+        amount: UNNAMED,
+        second: SecondDate::NoSecond,
+    },
+    // reject
+    Row {
+        kind: 7,
+        codes: UNNAMED,
+        mandate: UNNAMED,
+        a: NUMBER,
+        b: UNNAMED,
+        c: UNNAMED,
+        amount: UNNAMED,
+        second: SecondDate::NoSecond,
+    },
+    // return
+    Row {
+        kind: 8,
+        codes: UNNAMED,
+        mandate: UNNAMED,
+        a: NUMBER,
+        b: UNNAMED,
+        c: UNNAMED,
+        amount: UNNAMED,
+        second: SecondDate::NoSecond,
+    },
+    // refund
+    Row {
+        kind: 9,
+        codes: REFUND_CODES,
+        mandate: UNNAMED,
+        a: NUMBER,
+        b: RATE,
+        c: UNNAMED,
+        amount: UNNAMED,
+        second: SecondDate::NoSecond,
+    },
+    // reversal
+    Row {
+        kind: 10,
+        codes: UNNAMED,
+        mandate: UNNAMED,
+        a: NUMBER,
+        b: UNNAMED,
+        c: UNNAMED,
+        amount: UNNAMED,
+        second: SecondDate::NoSecond,
+    },
+];
+
+// Whether x lies in the range.
+fn within(r: Range, x: u64) -> bool
+    ensures { λ b. ⌜ b ≡ within r x ⌝ }
+{
+    (r.low <= x) & (x <= r.high)
+}
+
+fn row_at(i: usize) -> Row
+    requires { ⌜ i < length table ⌝ }
+    ensures { λ r. ⌜ r ≡ getD table i noRow ⌝ }
+{
+    TABLE[i]
+}
+
+// The limits of the events of a kind with a code.
+pub fn row_of(kind: u64, code: u64) -> RowAnswer
+    ensures { λ r. ⌜ r ≡ rowOf kind code ⌝ }
+{
+    let mut i = 0;
+    while i < ROWS {
+        let row = row_at(i);
+        let codes = row.codes;
+        if (row.kind == kind) & within(codes, code) {
+            return RowAnswer::Found(row);
+        }
+        i += 1;
+    }
+    RowAnswer::NoRow
+}
+
+// Whether s is a second date for an event of the date d.
+fn second_fits(second: SecondDate, d: u64, s: u64) -> bool
+    ensures { λ b. ⌜ b ≡ secondFits second d s ⌝ }
+{
+    match second {
+        SecondDate::NoSecond => s == 0,
+        SecondDate::Dated => calendar::gregorian::in_range(s),
+        SecondDate::NotAfter => calendar::gregorian::in_range(s) & (s <= d),
+    }
+}
+
+// Whether the fields of e, kind, date and code apart, are within the limits of a row.
+fn row_fits(r: Row, e: Event) -> bool
+    ensures { λ b. ⌜ b ≡ rowFits r e ⌝ }
+{
+    let mandate = r.mandate;
+    let a = r.a;
+    let b = r.b;
+    let c = r.c;
+    let amount = r.amount;
+    let second = r.second;
+    within(mandate, e.mandate)
+        & within(a, e.a)
+        & within(b, e.b)
+        & within(c, e.c)
+        & within(amount, e.amount)
+        & second_fits(second, e.date, e.second)
+}
+
+fn fields_fit(e: Event) -> bool
+    ensures { λ b. ⌜ b ≡ fieldsFit e ⌝ }
+{
+    let RowAnswer::Found(row) = row_of(e.kind, e.code) else {
+        return false;
+    };
+    row_fits(row, e)
+}
+
+// Refusals 3, 4 and 5, in this order.
+pub fn check(e: Event) -> Checked
+    ensures { λ r. ⌜ r ≡ checked e ⌝ }
+{
+    if !within(KINDS, e.kind) {
+        return Checked::Refused(Refusal::UnknownKind);
+    }
+    if !calendar::gregorian::in_range(e.date) {
+        return Checked::Refused(Refusal::BadDate);
+    }
+    if !fields_fit(e) {
+        return Checked::Refused(Refusal::BadField);
+    }
+    Checked::Within
+}
