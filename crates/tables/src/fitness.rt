@@ -10,11 +10,11 @@ use crate::creditors::is_added;
 use crate::rows::STRIDE;
 use calendar::gregorian::in_range;
 
-const CREDITORS: usize = 256;
+const CREDITORS: u64 = 256;
 
-const DEBTORS: usize = 4096;
+const DEBTORS: u64 = 4096;
 
-const BANKS: usize = 64;
+const BANKS: u64 = 64;
 
 const MANDATE_ROWS: usize = 4096;
 
@@ -58,10 +58,10 @@ pub fn sizes_fit(
 {
     row_count_fit(mandates, MANDATE_ROWS)
         & row_count_fit(collections, COLLECTION_ROWS)
-        & (creditors.len() == CREDITORS)
-        & (creditor_positions.len() == CREDITORS)
-        & (debtor_positions.len() == DEBTORS)
-        & (bank_positions.len() == BANKS)
+        & (creditors.len() == CREDITORS as usize)
+        & (creditor_positions.len() == CREDITORS as usize)
+        & (debtor_positions.len() == DEBTORS as usize)
+        & (bank_positions.len() == BANKS as usize)
 }
 
 fn header_fit(header: Header, mandates: &[u64], collections: &[u64]) -> bool
@@ -80,11 +80,15 @@ fn mandate_row_fit(creditors: &[u64], cells: &[u64], row: usize) -> bool
     ensures { λ r. ⌜ r ≡ mandateRowFit (now (creditors .entry)) (now (cells .entry)) row ⌝ }
 {
     let b = row * STRIDE;
-    ((1 <= cells[b]) & (cells[b] <= NUMBERS))
-        & ((1 <= cells[b + 1]) & (cells[b + 1] <= 256))
-        & is_added(creditors, cells[b + 1])
-        & ((1 <= cells[b + 2]) & (cells[b + 2] <= 4096))
-        & ((1 <= cells[b + 3]) & (cells[b + 3] <= 64))
+    let number = cells[b];
+    let creditor = cells[b + 1];
+    let debtor = cells[b + 2];
+    let bank = cells[b + 3];
+    ((1 <= number) & (number <= NUMBERS))
+        & ((1 <= creditor) & (creditor <= CREDITORS))
+        & is_added(creditors, creditor)
+        & ((1 <= debtor) & (debtor <= DEBTORS))
+        & ((1 <= bank) & (bank <= BANKS))
         & in_range(cells[b + 4])
         & (cells[b + 5] <= 1)
         & (cells[b + 6] <= 2)
@@ -122,16 +126,23 @@ fn collection_row_fit(latest: u64, creditors: &[u64], cells: &[u64], row: usize)
     ensures { λ r. ⌜ r ≡ collectionRowFit latest (now (creditors .entry)) (now (cells .entry)) row ⌝ }
 {
     let b = row * STRIDE;
-    ((1 <= cells[b]) & (cells[b] <= NUMBERS))
-        & ((1 <= cells[b + 1]) & (cells[b + 1] <= 256))
-        & is_added(creditors, cells[b + 1])
-        & ((1 <= cells[b + 2]) & (cells[b + 2] <= 4096))
-        & ((1 <= cells[b + 3]) & (cells[b + 3] <= 64))
-        & ((1 <= cells[b + 4]) & (cells[b + 4] <= 64))
-        & ((1 <= cells[b + 5]) & (cells[b + 5] <= AMOUNTS))
+    let number = cells[b];
+    let creditor = cells[b + 1];
+    let debtor = cells[b + 2];
+    let cbank = cells[b + 3];
+    let dbank = cells[b + 4];
+    let amount = cells[b + 5];
+    let tag = cells[b + 7];
+    ((1 <= number) & (number <= NUMBERS))
+        & ((1 <= creditor) & (creditor <= CREDITORS))
+        & is_added(creditors, creditor)
+        & ((1 <= debtor) & (debtor <= DEBTORS))
+        & ((1 <= cbank) & (cbank <= BANKS))
+        & ((1 <= dbank) & (dbank <= BANKS))
+        & ((1 <= amount) & (amount <= AMOUNTS))
         & in_range(cells[b + 6])
-        & (cells[b + 7] <= 5)
-        & day_fit(latest, cells[b + 7], cells[b + 8])
+        & (tag <= 5)
+        & day_fit(latest, tag, cells[b + 8])
 }
 
 fn collections_fit(latest: u64, creditors: &[u64], cells: &[u64], used: usize) -> bool
@@ -152,7 +163,7 @@ fn collections_fit(latest: u64, creditors: &[u64], cells: &[u64], used: usize) -
 fn creditor_fit(bank: u64, position: i64) -> bool
     ensures { λ r. ⌜ r ≡ creditorFit bank position ⌝ }
 {
-    (bank <= 64) & position_fit(position) & ((1 <= bank) | ((0 <= position) & (position <= 0)))
+    (bank <= BANKS) & position_fit(position) & ((1 <= bank) | ((0 <= position) & (position <= 0)))
 }
 
 fn creditors_fit(creditors: &[u64], positions: &[i64]) -> bool
