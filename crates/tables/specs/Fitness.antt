@@ -28,6 +28,13 @@ noneOrDate x = eqb x 0 || inRange x
 abbrev pub positionFit : ℤ → Bool
 positionFit z = leZ (negℤ (pos positionLimit)) z && leZ z (pos positionLimit)
 
+-- "total compensation beyond" it, "compensation below 0 also"
+abbrev pub compensationFit : ℤ → Bool
+compensationFit z = leZ (pos 0) z && leZ z (pos positionLimit)
+
+abbrev pub isZero : ℤ → Bool
+isZero z = leZ (pos 0) z && leZ z (pos 0)
+
 -- ---- sizes
 
 -- "row counts outside the limits": whole rows, from 1 to the most that may be lent
@@ -35,16 +42,19 @@ abbrev pub rowCountFit : ℕ → List ℕ → Bool
 rowCountFit most cells = allOf (eqb (length cells % stride) 0 ∷ leb 1 (rows cells) ∷ leb (rows cells) most ∷ [])
 
 -- "a position or creditor table of another size than its parties"
-unfoldable pub sizesOf : List ℕ → List ℕ → List ℕ → List ℤ → List ℤ → List ℤ → Bool
-sizesOf mandates collections creditors creditorPositions debtorPositions bankPositions =
-    allOf
-    (rowCountFit mandateRowLimit mandates
+abbrev pub sizeTests : List ℕ → List ℕ → List ℕ → List ℤ → List ℤ → List ℤ → List Bool
+sizeTests mandates collections creditors creditorPositions debtorPositions bankPositions =
+    rowCountFit mandateRowLimit mandates
     ∷ rowCountFit collectionRowLimit collections
     ∷ eqb (length creditors) creditorCount
     ∷ eqb (length creditorPositions) creditorCount
     ∷ eqb (length debtorPositions) debtorCount
     ∷ eqb (length bankPositions) bankCount
-    ∷ [])
+    ∷ []
+
+unfoldable pub sizesOf : List ℕ → List ℕ → List ℕ → List ℤ → List ℤ → List ℤ → Bool
+sizesOf mandates collections creditors creditorPositions debtorPositions bankPositions =
+    allOf (sizeTests mandates collections creditors creditorPositions debtorPositions bankPositions)
 
 abbrev pub sizesFit : Ledger → Bool
 sizesFit l =
@@ -58,15 +68,17 @@ sizesFit l =
 
 -- ---- the header
 
-unfoldable pub headerOf : ℕ → ℕ → ℕ → ℤ → List ℕ → List ℕ → Bool
-headerOf latest mandatesUsed collectionsUsed compensation mandates collections =
-    allOf
-    (leb mandatesUsed (rows mandates)  -- "more rows used than lent"
+abbrev pub headerTests : ℕ → ℕ → ℕ → ℤ → List ℕ → List ℕ → List Bool
+headerTests latest mandatesUsed collectionsUsed compensation mandates collections =
+    leb mandatesUsed (rows mandates)  -- "more rows used than lent"
     ∷ leb collectionsUsed (rows collections)
     ∷ noneOrDate latest  -- "a latest date neither 0 nor in range"
-    ∷ leZ (pos 0) compensation  -- "total compensation beyond" the limit, "compensation below 0 also"
-    ∷ leZ compensation (pos positionLimit)
-    ∷ [])
+    ∷ compensationFit compensation
+    ∷ []
+
+unfoldable pub headerOf : ℕ → ℕ → ℕ → ℤ → List ℕ → List ℕ → Bool
+headerOf latest mandatesUsed collectionsUsed compensation mandates collections =
+    allOf (headerTests latest mandatesUsed collectionsUsed compensation mandates collections)
 
 abbrev pub headerFit : Ledger → Bool
 headerFit l =
@@ -80,11 +92,17 @@ headerFit l =
 
 -- ---- "any used field outside its limits", "a mandate or collection row whose creditor doesn't exist"
 
+abbrev pub rowFit : (List ℕ → Bool) → List ℕ → ℕ → Bool
+rowFit test cells row = test (rowAt stride cells row)
+
+-- each used row passes a test of its cells
+unfoldable pub rowsFit : (List ℕ → Bool) → List ℕ → ℕ → Bool
+rowsFit test cells used = allFrom (rowFit test cells) 0 used
+
 -- the cells of a mandate, in the order of specs/Records
-unfoldable pub mandateFit : List ℕ → List ℕ → Bool
-mandateFit creditors fields =
-    allOf
-    (within 1 numberLimit (getD fields 0 0)
+abbrev pub mandateTests : List ℕ → List ℕ → List Bool
+mandateTests creditors fields =
+    within 1 numberLimit (getD fields 0 0)
     ∷ within 1 creditorCount (getD fields 1 0)
     ∷ added creditors (getD fields 1 0)
     ∷ within 1 debtorCount (getD fields 2 0)
@@ -94,23 +112,19 @@ mandateFit creditors fields =
     ∷ leb (getD fields 6 0) 2  -- live, closed or cancelled
     ∷ leb (getD fields 7 0) 1  -- whether FRST is due
     ∷ noneOrDate (getD fields 8 0)  -- kept due last presented
-    ∷ [])
+    ∷ []
 
-abbrev pub mandateRowFit : List ℕ → List ℕ → ℕ → Bool
-mandateRowFit creditors cells row = mandateFit creditors (rowAt stride cells row)
-
-unfoldable pub mandatesFit : List ℕ → List ℕ → ℕ → Bool
-mandatesFit creditors cells used = allFrom (mandateRowFit creditors cells) 0 used
+unfoldable pub mandateFit : List ℕ → List ℕ → Bool
+mandateFit creditors fields = allOf (mandateTests creditors fields)
 
 -- a presented or rejected row has no day; "a settled or undone day after the latest date"
 abbrev pub dayFit : ℕ → ℕ → ℕ → Bool
 dayFit latest tag day = leb tag 1 || (inRange day && leb day latest)
 
 -- the cells of a collection, in the order of specs/Records
-unfoldable pub collectionFit : ℕ → List ℕ → List ℕ → Bool
-collectionFit latest creditors fields =
-    allOf
-    (within 1 numberLimit (getD fields 0 0)
+abbrev pub collectionTests : ℕ → List ℕ → List ℕ → List Bool
+collectionTests latest creditors fields =
+    within 1 numberLimit (getD fields 0 0)
     ∷ within 1 creditorCount (getD fields 1 0)
     ∷ added creditors (getD fields 1 0)
     ∷ within 1 debtorCount (getD fields 2 0)
@@ -120,22 +134,19 @@ collectionFit latest creditors fields =
     ∷ inRange (getD fields 6 0)  -- kept due
     ∷ leb (getD fields 7 0) 5  -- the six states
     ∷ dayFit latest (getD fields 7 0) (getD fields 8 0)
-    ∷ [])
+    ∷ []
 
-abbrev pub collectionRowFit : ℕ → List ℕ → List ℕ → ℕ → Bool
-collectionRowFit latest creditors cells row = collectionFit latest creditors (rowAt stride cells row)
-
-unfoldable pub collectionsFit : ℕ → List ℕ → List ℕ → ℕ → Bool
-collectionsFit latest creditors cells used = allFrom (collectionRowFit latest creditors cells) 0 used
+unfoldable pub collectionFit : ℕ → List ℕ → List ℕ → Bool
+collectionFit latest creditors fields = allOf (collectionTests latest creditors fields)
 
 -- ---- creditors and their positions
 
-abbrev pub isZero : ℤ → Bool
-isZero z = leZ (pos 0) z && leZ z (pos 0)
-
 -- its bank is none or one of the banks; "a position other than 0 for a creditor not added"
+abbrev pub creditorTests : ℕ → ℤ → List Bool
+creditorTests bank position = leb bank bankCount ∷ positionFit position ∷ (leb 1 bank || isZero position) ∷ []
+
 unfoldable pub creditorFit : ℕ → ℤ → Bool
-creditorFit bank position = allOf (leb bank bankCount ∷ positionFit position ∷ (leb 1 bank || isZero position) ∷ [])
+creditorFit bank position = allOf (creditorTests bank position)
 
 abbrev pub creditorFitAt : List ℕ → List ℤ → ℕ → Bool
 creditorFitAt creditors positions i = creditorFit (getD creditors i 0) (getD positions i (pos 0))
@@ -153,14 +164,15 @@ positionsFit positions = allFrom (positionFitAt positions) 0 (length positions)
 
 -- ---- all of it
 
-unfoldable pub fit : Ledger → Bool
-fit l =
-    sizesFit l
-    && headerFit l
-    && allOf
-    (mandatesFit (l .creditors) (l .mandates) (l .mandatesUsed)
-    ∷ collectionsFit (l .latest) (l .creditors) (l .collections) (l .collectionsUsed)
+abbrev pub contentTests : Ledger → List Bool
+contentTests l =
+    rowsFit (mandateFit (l .creditors)) (l .mandates) (l .mandatesUsed)
+    ∷ rowsFit (collectionFit (l .latest) (l .creditors)) (l .collections) (l .collectionsUsed)
     ∷ creditorsFit (l .creditors) (l .creditorPositions)
     ∷ positionsFit (l .debtorPositions)
     ∷ positionsFit (l .bankPositions)
-    ∷ [])
+    ∷ []
+
+-- lent memory is fit: its sizes, its header, and all that is used
+unfoldable pub fit : Ledger → Bool
+fit l = sizesFit l && (headerFit l && allOf (contentTests l))

@@ -4,7 +4,7 @@ ghost use Prim.Native.Nat.{_≤_, _<_};
 ghost use lib.ListN.{length};
 ghost use Rattle.tables.specs.Rows.{rows};
 ghost use Rattle.tables.specs.Ledger.{ledger};
-ghost use Rattle.tables.specs.Fitness.{noneOrDate, positionFit, rowCountFit, sizesOf, headerOf, mandateRowFit, mandatesFit, dayFit, collectionRowFit, collectionsFit, creditorFit, creditorsFit, positionsFit, fit};
+ghost use Rattle.tables.specs.Fitness.{noneOrDate, positionFit, compensationFit, isZero, rowCountFit, sizesOf, headerOf, rowFit, rowsFit, mandateFit, dayFit, collectionFit, creditorFit, creditorsFit, positionsFit, fit};
 use crate::Header;
 use crate::creditors::is_added;
 use crate::rows::STRIDE;
@@ -36,6 +36,18 @@ fn position_fit(z: i64) -> bool
     ensures { λ r. ⌜ r ≡ positionFit z ⌝ }
 {
     (-POSITIONS <= z) & (z <= POSITIONS)
+}
+
+fn compensation_fit(z: i64) -> bool
+    ensures { λ r. ⌜ r ≡ compensationFit z ⌝ }
+{
+    (0 <= z) & (z <= POSITIONS)
+}
+
+fn is_zero(z: i64) -> bool
+    ensures { λ r. ⌜ r ≡ isZero z ⌝ }
+{
+    (0 <= z) & (z <= 0)
 }
 
 fn row_count_fit(cells: &[u64], most: usize) -> bool
@@ -70,14 +82,13 @@ fn header_fit(header: Header, mandates: &[u64], collections: &[u64]) -> bool
     (header.mandates <= mandates.len() / STRIDE)
         & (header.collections <= collections.len() / STRIDE)
         & none_or_date(header.latest)
-        & (0 <= header.compensation)
-        & (header.compensation <= POSITIONS)
+        & compensation_fit(header.compensation)
 }
 
 // The cells of one mandate row.
 fn mandate_row_fit(creditors: &[u64], cells: &[u64], row: usize) -> bool
     requires { ⌜ row < rows (now cells) ⌝ }
-    ensures { λ r. ⌜ r ≡ mandateRowFit (now (creditors .entry)) (now (cells .entry)) row ⌝ }
+    ensures { λ r. ⌜ r ≡ rowFit (mandateFit (now (creditors .entry))) (now (cells .entry)) row ⌝ }
 {
     let b = row * STRIDE;
     let number = cells[b];
@@ -98,7 +109,7 @@ fn mandate_row_fit(creditors: &[u64], cells: &[u64], row: usize) -> bool
 
 fn mandates_fit(creditors: &[u64], cells: &[u64], used: usize) -> bool
     requires { ⌜ used ≤ rows (now cells) ⌝ }
-    ensures { λ r. ⌜ r ≡ mandatesFit (now (creditors .entry)) (now (cells .entry)) used ⌝ }
+    ensures { λ r. ⌜ r ≡ rowsFit (mandateFit (now (creditors .entry))) (now (cells .entry)) used ⌝ }
 {
     let mut i: usize = 0;
     while i < used {
@@ -123,7 +134,7 @@ fn day_fit(latest: u64, tag: u64, day: u64) -> bool
 // The cells of one collection row.
 fn collection_row_fit(latest: u64, creditors: &[u64], cells: &[u64], row: usize) -> bool
     requires { ⌜ row < rows (now cells) ⌝ }
-    ensures { λ r. ⌜ r ≡ collectionRowFit latest (now (creditors .entry)) (now (cells .entry)) row ⌝ }
+    ensures { λ r. ⌜ r ≡ rowFit (collectionFit latest (now (creditors .entry))) (now (cells .entry)) row ⌝ }
 {
     let b = row * STRIDE;
     let number = cells[b];
@@ -147,7 +158,7 @@ fn collection_row_fit(latest: u64, creditors: &[u64], cells: &[u64], row: usize)
 
 fn collections_fit(latest: u64, creditors: &[u64], cells: &[u64], used: usize) -> bool
     requires { ⌜ used ≤ rows (now cells) ⌝ }
-    ensures { λ r. ⌜ r ≡ collectionsFit latest (now (creditors .entry)) (now (cells .entry)) used ⌝ }
+    ensures { λ r. ⌜ r ≡ rowsFit (collectionFit latest (now (creditors .entry))) (now (cells .entry)) used ⌝ }
 {
     let mut i: usize = 0;
     while i < used {
@@ -163,7 +174,7 @@ fn collections_fit(latest: u64, creditors: &[u64], cells: &[u64], used: usize) -
 fn creditor_fit(bank: u64, position: i64) -> bool
     ensures { λ r. ⌜ r ≡ creditorFit bank position ⌝ }
 {
-    (bank <= BANKS) & position_fit(position) & ((1 <= bank) | ((0 <= position) & (position <= 0)))
+    (bank <= BANKS) & position_fit(position) & ((1 <= bank) | is_zero(position))
 }
 
 fn creditors_fit(creditors: &[u64], positions: &[i64]) -> bool

@@ -5,7 +5,7 @@ use mathlib.Core.Path.{_≡_, refl, sym, _∙_, ap}
 use mathlib.Core.Bool.{Bool, true, false, cond}
 use mathlib.Core.List.{List}
 use mathlib.Core.Logic.{_≢_, ⊎-elim}
-use Prim.Native.Nat.{ℕ, suc, _+_, _*_, _≤_, _<_}
+use Prim.Native.Nat.{ℕ, suc, _+_, _-_, _*_, _≤_, _<_}
 use native.Mathlib.Nat.{add-zero}
 use native.Mathlib.Numerals.{add-one}
 use native.Mathlib.Omega.{arith}
@@ -14,7 +14,7 @@ use lib.Dec.{eqb, ltb}
 use lib.ListN.{length, getD}
 use Rattle.common.specs.Walk.{firstFrom}
 use Rattle.common.proofs.Tests.{true-or-false}
-use Rattle.common.proofs.Walk.{firstFrom-cases, firstFrom-more, firstFrom-same, firstFrom-through}
+use Rattle.common.proofs.Walk.{all-left, firstFrom-cases, firstFrom-more, firstFrom-same, firstFrom-through}
 use Rattle.tables.specs.declared.Found.{Found}
 use Rattle.tables.specs.declared.Found.the-variants.{At, Nothing}
 use Rattle.tables.specs.Limits.{stride}
@@ -56,13 +56,18 @@ module _ (cells : List ℕ) (used number : ℕ) where
   lookup-cases P found none =
       firstFrom-cases (numberIs cells number) At Nothing P (existing cells used)
       (λ k h e below.
-        found k
-        (record {
-          existing-row = h;
-          number-row = eqb-true (numberAt cells k) number e;
-          none-below = λ j l. eqb-false (numberAt cells j) number (below j l);
-        }))
+      found k
+      (record {
+        existing-row = h;
+        number-row = eqb-true (numberAt cells k) number e;
+        none-below = λ j l. eqb-false (numberAt cells j) number (below j l);
+      }))
       (λ below. none (λ j l. eqb-false (numberAt cells j) number (below j l)))
+
+  -- the lookup as the loop begins it
+  pub lookup-walk : (n : ℕ) → n ≡ existing cells used → firstFrom (numberIs cells number) At Nothing 0 (n - 0) ≡ lookup cells used number
+  unfolding lookup
+  lookup-walk n e = rw (all-left n, e)
 
   pub lookup-at : (row : ℕ) → lookup cells used number ≡ At row → Lowest cells used number row
   lookup-at row =
@@ -83,16 +88,16 @@ module _ (cells : List ℕ) (used number : ℕ) where
       (λ k low. ap At (one-row k low))
       (λ none. absurd (none row (r .existing-row) (r .number-row)))
     where
-    one-row : (k : ℕ) → Lowest cells used number k → k ≡ row
-    one-row k low =
-        ⊎-elim
-        (λ e. absurd (r .none-below k (ltb-true k row e) (low .number-row)))
-        (λ e.
+      one-row : (k : ℕ) → Lowest cells used number k → k ≡ row
+      one-row k low =
+          ⊎-elim
+          (λ e. absurd (r .none-below k (ltb-true k row e) (low .number-row)))
+          (λ e.
           ⊎-elim
           (λ b. absurd (low .none-below row (ltb-true row k b) (r .number-row)))
           (λ b. omega (arith, ltb-false k row e, ltb-false row k b))
           (true-or-false (ltb row k)))
-        (true-or-false (ltb k row))
+          (true-or-false (ltb k row))
 
   pub lookup-none : ((j : ℕ) → j < existing cells used → numberAt cells j ≢ number) → lookup cells used number ≡ Nothing
   lookup-none none =

@@ -7,11 +7,12 @@ use mathlib.Core.List.{List, [], _∷_}
 use mathlib.Core.Logic.{_≢_, _⊎_, inl, inr, ⊎-elim}
 use Prim.Native.Nat.{ℕ, zero, suc, _+_, _*_, _/_, _≤_, _<_}
 use native.Mathlib.Nat.{add-zero, suc-mul, mul-le-mul-right, le-div-iff-mul-le}
+use native.Mathlib.Numerals.{add-one}
 use native.Mathlib.Omega.{arith}
 use borrow.Author.Tests.{ltb-true, ltb-false, lt-ltb, le-ltb}
 use lib.Dec.{ltb}
-use lib.ListN.{length, getD, set, length-set}
-use lib.Seq.{sets, length-sets, getD-set-same, getD-set-other, ext-getD}
+use lib.ListN.{length, getD, set, drop, length-set, drop-of-length-le}
+use lib.Seq.{sets, length-sets, getD-set-same, getD-set-other, drop-cons, ext-getD}
 use Rattle.common.proofs.Tests.{true-or-false}
 use Rattle.tables.specs.declared.Mandate.{Mandate}
 use Rattle.tables.specs.declared.Collection.{Collection}
@@ -39,6 +40,19 @@ sets-in (v ∷ vs) l i zero h r =
 sets-in (v ∷ vs) l i (suc n) h r =
     let e : i + suc n ≡ suc i + n = omega arith in
     rw e (sets-in vs (set l i v) (suc i) n (omega arith) (rw length-set (omega arith)))
+
+-- the stores one by one: what is left to store from k on
+module _ (cells fields : List ℕ) (b : ℕ) where
+  pub sets-start : sets cells (b + 0) (drop 0 fields) ≡ sets cells b fields
+  sets-start = rw (add-zero b)
+
+  pub sets-step : (k : ℕ) → k < length fields → sets (set cells (b + k) (getD fields k 0)) (b + (k + 1)) (drop (k + 1) fields) ≡ sets cells (b + k) (drop k fields)
+  sets-step k h =
+      let e : b + (k + 1) ≡ suc (b + k) = omega arith in
+      rw (e, add-one k, drop-cons fields k 0)
+
+  pub sets-end : (k : ℕ) → length fields ≤ k → sets cells (b + k) (drop k fields) ≡ cells
+  sets-end k h = rw (drop-of-length-le fields h)
 
 -- ---- rowAt
 
@@ -83,9 +97,9 @@ row-room w cells row p h =
 -- ---- putRow
 
 module _ (w : ℕ) (cells : List ℕ) (row : ℕ) (fields : List ℕ) where
-  there : row < rowsOf w cells → putRow w cells row fields ≡ sets cells (row * w) fields
+  pub put-there : row < rowsOf w cells → putRow w cells row fields ≡ sets cells (row * w) fields
   unfolding putRow
-  there h = rw (lt-ltb row (rowsOf w cells) h)
+  put-there h = rw (lt-ltb row (rowsOf w cells) h)
 
   -- a row that is not there whole is not written
   pub put-nowhere : rowsOf w cells ≤ row → putRow w cells row fields ≡ cells
@@ -95,7 +109,7 @@ module _ (w : ℕ) (cells : List ℕ) (row : ℕ) (fields : List ℕ) where
   by-place : (P : List ℕ → Type 0) → (row < rowsOf w cells → P (sets cells (row * w) fields)) → P cells → P (putRow w cells row fields)
   by-place P written kept =
       ⊎-elim
-      (λ e. let h = ltb-true row (rowsOf w cells) e in rw (there h) (written h))
+      (λ e. let h = ltb-true row (rowsOf w cells) e in rw (put-there h) (written h))
       (λ e. rw (put-nowhere (ltb-false row (rowsOf w cells) e)) kept)
       (true-or-false (ltb row (rowsOf w cells)))
 
@@ -124,7 +138,7 @@ module _ (w : ℕ) (cells : List ℕ) (row : ℕ) (fields : List ℕ) where
   -- a cell of the row is the field
   pub cell-put-same : length fields ≡ w → 0 < w → row < rowsOf w cells → (k : ℕ) → k < w → getD (putRow w cells row fields) (row * w + k) 0 ≡ getD fields k 0
   cell-put-same e p h k l =
-      rw (there h) (sets-in fields cells (row * w) k (rw e l) (rw e (row-room w cells row p h)))
+      rw (put-there h) (sets-in fields cells (row * w) k (rw e l) (rw e (row-room w cells row p h)))
 
   -- a cell of another row stays
   pub cell-put-other : length fields ≡ w → (other k : ℕ) → other ≢ row → k < w → getD (putRow w cells row fields) (other * w + k) 0 ≡ getD cells (other * w + k) 0
@@ -132,8 +146,8 @@ module _ (w : ℕ) (cells : List ℕ) (row : ℕ) (fields : List ℕ) where
       ⊎-elim
       (λ b. cell-put-before (other * w + k) (omega (arith, row-before w other row (ltb-true other row b))))
       (λ b.
-        let after : row < other = omega (arith, ltb-false other row b, ne) in
-        cell-put-after e (other * w + k) (omega (arith, row-before w row other after)))
+      let after : row < other = omega (arith, ltb-false other row b, ne) in
+      cell-put-after e (other * w + k) (omega (arith, row-before w row other after)))
       (true-or-false (ltb other row))
 
   -- the row reads as the fields, whatever they are
@@ -148,9 +162,9 @@ module _ (w : ℕ) (cells : List ℕ) (row : ℕ) (fields : List ℕ) where
       (rowAt-length w (putRow w cells row fields) other)
       (rowAt-length w cells other)
       (λ k l.
-        rowAt-cell w (putRow w cells row fields) other k l
-        ∙ cell-put-other e other k ne l
-        ∙ sym (rowAt-cell w cells other k l))
+      rowAt-cell w (putRow w cells row fields) other k l
+      ∙ cell-put-other e other k ne l
+      ∙ sym (rowAt-cell w cells other k l))
 
 -- ---- the two tables
 
