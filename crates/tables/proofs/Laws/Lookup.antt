@@ -1,0 +1,155 @@
+-- Laws of specs/Lookup: a row that is found is the lowest used one of its number, and what a written row does to a lookup.
+-- To cite: `Lowest` with `lookup-at` and `lookup-made`, `lookup-nothing`, `lookup-none`, `lookup-put-kept`,
+-- `lookup-put-next`. Assumes nothing.
+use mathlib.Core.Path.{_≡_, refl, sym, _∙_, ap}
+use mathlib.Core.Bool.{Bool, true, false, cond}
+use mathlib.Core.List.{List}
+use mathlib.Core.Logic.{_≢_, ⊎-elim}
+use Prim.Native.Nat.{ℕ, suc, _+_, _-_, _*_, _≤_, _<_}
+use native.Mathlib.Nat.{add-zero}
+use native.Mathlib.Numerals.{add-one}
+use native.Mathlib.Omega.{arith}
+use borrow.Author.Tests.{ltb-true, ltb-false, lt-ltb, le-ltb, eqb-true, eqb-false, eq-eqb, ne-eqb}
+use lib.Dec.{eqb, ltb}
+use lib.ListN.{length, getD}
+use Rattle.common.specs.Walk.{firstFrom}
+use Rattle.common.proofs.Tests.{true-or-false}
+use Rattle.common.proofs.Walk.{all-left, firstFrom-cases, firstFrom-more, firstFrom-same, firstFrom-through}
+use Rattle.tables.specs.declared.Found.{Found}
+use Rattle.tables.specs.declared.Found.the-variants.{At, Nothing}
+use Rattle.tables.specs.Limits.{stride}
+use Rattle.tables.specs.Rows.{rows, putRow}
+use Rattle.tables.specs.Lookup.{numberAt, numberIs, existing, lookup}
+use Rattle.tables.proofs.Laws.Rows.{rows-put, cell-put-same, cell-put-other}
+
+-- ---- existing
+
+module _ (cells : List ℕ) (used : ℕ) where
+  existing-cases : (P : ℕ → Type 0) → (used < rows cells → P used) → (rows cells ≤ used → P (rows cells)) → P (existing cells used)
+  existing-cases P low high =
+      ⊎-elim
+      (λ e. rw e (low (ltb-true used (rows cells) e)))
+      (λ e. rw e (high (ltb-false used (rows cells) e)))
+      (true-or-false (ltb used (rows cells)))
+
+  pub existing-used : existing cells used ≤ used
+  existing-used = existing-cases (λ (n : ℕ). n ≤ used) (λ h. omega arith) (λ h. h)
+
+  pub existing-rows : existing cells used ≤ rows cells
+  existing-rows = existing-cases (λ (n : ℕ). n ≤ rows cells) (λ h. omega arith) (λ h. omega arith)
+
+  -- no more rows used than lent: each of them exists
+  pub existing-fit : used ≤ rows cells → existing cells used ≡ used
+  existing-fit l = existing-cases (λ (n : ℕ). n ≡ used) (λ h. refl) (λ h. omega arith)
+
+-- ---- lookup
+
+-- the row is the lowest used one of the number
+pub record Lowest (cells : List ℕ) (used number row : ℕ) : Type 0 where
+  pub existing-row : row < existing cells used
+  pub number-row : numberAt cells row ≡ number
+  pub none-below : (j : ℕ) → j < row → numberAt cells j ≢ number
+
+module _ (cells : List ℕ) (used number : ℕ) where
+  pub lookup-cases : (P : Found → Type 0) → ((row : ℕ) → Lowest cells used number row → P (At row)) → (((j : ℕ) → j < existing cells used → numberAt cells j ≢ number) → P Nothing) → P (lookup cells used number)
+  unfolding lookup
+  lookup-cases P found none =
+      firstFrom-cases (numberIs cells number) At Nothing P (existing cells used)
+      (λ k h e below.
+      found k
+      (record {
+        existing-row = h;
+        number-row = eqb-true (numberAt cells k) number e;
+        none-below = λ j l. eqb-false (numberAt cells j) number (below j l);
+      }))
+      (λ below. none (λ j l. eqb-false (numberAt cells j) number (below j l)))
+
+  -- the lookup as the loop begins it
+  pub lookup-walk : (n : ℕ) → n ≡ existing cells used → firstFrom (numberIs cells number) At Nothing 0 (n - 0) ≡ lookup cells used number
+  unfolding lookup
+  lookup-walk n e = rw (all-left n, e)
+
+  pub lookup-at : (row : ℕ) → lookup cells used number ≡ At row → Lowest cells used number row
+  lookup-at row =
+      lookup-cases (λ (f : Found). f ≡ At row → Lowest cells used number row)
+      (λ k low e. let s : k ≡ row = cc in rw (← s) low)
+      (λ none e. let z : _≡_ {A = ℕ} 0 1 = cc in absurd (omega arith))
+
+  pub lookup-nothing : lookup cells used number ≡ Nothing → (j : ℕ) → j < existing cells used → numberAt cells j ≢ number
+  lookup-nothing =
+      lookup-cases
+      (λ (f : Found). f ≡ Nothing → (j : ℕ) → j < existing cells used → numberAt cells j ≢ number)
+      (λ k low e. let z : _≡_ {A = ℕ} 0 1 = cc in absurd (omega arith))
+      (λ none e. none)
+
+  pub lookup-made : (row : ℕ) → Lowest cells used number row → lookup cells used number ≡ At row
+  lookup-made row r =
+      lookup-cases (λ (f : Found). f ≡ At row)
+      (λ k low. ap At (one-row k low))
+      (λ none. absurd (none row (r .existing-row) (r .number-row)))
+    where
+      one-row : (k : ℕ) → Lowest cells used number k → k ≡ row
+      one-row k low =
+          ⊎-elim
+          (λ e. absurd (r .none-below k (ltb-true k row e) (low .number-row)))
+          (λ e.
+          ⊎-elim
+          (λ b. absurd (low .none-below row (ltb-true row k b) (r .number-row)))
+          (λ b. omega (arith, ltb-false k row e, ltb-false row k b))
+          (true-or-false (ltb row k)))
+          (true-or-false (ltb k row))
+
+  pub lookup-none : ((j : ℕ) → j < existing cells used → numberAt cells j ≢ number) → lookup cells used number ≡ Nothing
+  lookup-none none =
+      lookup-cases
+      (λ (f : Found). f ≡ Nothing)
+      (λ k low. absurd (none k (low .existing-row) (low .number-row)))
+      (λ n. refl)
+
+-- ---- lookup after a row is written
+
+-- the first answer, or else the second
+abbrev pub orElse : Found → Found → Found
+orElse (At row) other = At row
+orElse Nothing other = other
+
+module _ (cells : List ℕ) (row : ℕ) (fields : List ℕ) (e : length fields ≡ stride) where
+  first-cell : (r : ℕ) → r * stride + 0 ≡ r * stride
+  first-cell r = add-zero (r * stride)
+
+  pub numberAt-put-same : row < rows cells → numberAt (putRow stride cells row fields) row ≡ getD fields 0 0
+  numberAt-put-same h = rw first-cell at (cell-put-same stride cells row fields e (omega arith) h 0 (omega arith))
+
+  pub numberAt-put-other : (other : ℕ) → other ≢ row → numberAt (putRow stride cells row fields) other ≡ numberAt cells other
+  numberAt-put-other other ne = rw first-cell at (cell-put-other stride cells row fields e other 0 ne (omega arith))
+
+  same-number : row < rows cells → getD fields 0 0 ≡ numberAt cells row → (j : ℕ) → numberAt (putRow stride cells row fields) j ≡ numberAt cells j
+  same-number h s j =
+      ⊎-elim
+      (λ q. let p = eqb-true j row q in rw p (numberAt-put-same h ∙ s))
+      (λ q. numberAt-put-other j (eqb-false j row q))
+      (true-or-false (eqb j row))
+
+  -- a row that keeps its number: every lookup stays
+  pub lookup-put-kept : row < rows cells → getD fields 0 0 ≡ numberAt cells row → (used number : ℕ) → lookup (putRow stride cells row fields) used number ≡ lookup cells used number
+  unfolding lookup
+  lookup-put-kept h s used number =
+      rw (rows-put stride cells row fields)
+      (firstFrom-same (numberIs (putRow stride cells row fields) number) (numberIs cells number) At Nothing (existing cells used)
+      (λ k l. ap (λ (n : ℕ). eqb n number) (same-number h s k)))
+
+  -- a row at the next place: the lookup goes on there
+  pub lookup-put-next : row < rows cells → (number : ℕ) → lookup (putRow stride cells row fields) (row + 1) number ≡ orElse (lookup cells row number) (cond (eqb (getD fields 0 0) number) (At row) Nothing)
+  unfolding lookup
+  lookup-put-next h number =
+      let room : row + 1 ≤ rows (putRow stride cells row fields) = rw (rows-put stride cells row fields) (omega arith) in
+      let last : Found = cond (eqb (getD fields 0 0) number) (At row) Nothing in
+      let t : ℕ → Bool = numberIs (putRow stride cells row fields) number in
+      let zero-row : 0 + row ≡ row = omega arith in
+      ap (λ (n : ℕ). firstFrom t At Nothing 0 n) (existing-fit (putRow stride cells row fields) (row + 1) room ∙ add-one row)
+      ∙ firstFrom-more t At Nothing 0 row
+      ∙ rw (zero-row, numberAt-put-same h)
+      (firstFrom-same t (numberIs cells number) At last row
+      (λ k l. ap (λ (n : ℕ). eqb n number) (numberAt-put-other k (λ s. omega arith))))
+      ∙ sym (firstFrom-through (λ (f : Found). orElse f last) (numberIs cells number) At Nothing 0 row)
+      ∙ ap (λ (n : ℕ). orElse (firstFrom (numberIs cells number) At Nothing 0 n) last) (sym (existing-fit cells row (omega arith)))

@@ -1,0 +1,17 @@
+use borrow.Author.Tests.{ne-eqb}
+use Rattle.tables.proofs.rows.standing_of.Statement.{statement}
+use Rattle.tables.proofs.rows.standing_of.Tie as tie
+use Rattle.tables.proofs.rows.standing_of.Reads as reads
+use Rattle.tables.proofs.rows.standing_of.Lts as lts
+
+returns : tie.Need-returns
+returns c = rw (c .match .keys1)
+
+returns-2 : tie.Need-returns-2
+returns-2 c = rw (c .match .keys2)
+
+returns-3 : tie.Need-returns-3
+returns-3 c = simp (ne-eqb _ _ (c .match .rest .0 .1), ne-eqb _ _ (c .match .rest .1))
+
+pub standing-of-spec : {M : Type 1} → statement M
+standing-of-spec = tie.close (tie.spec returns returns-2 returns-3)
