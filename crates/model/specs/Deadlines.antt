@@ -1,0 +1,85 @@
+-- Document 01, "Ten events": the kept due, the last days from the settled day, the lapse of a mandate. The ledger and the
+-- journal use the same definitions. Assumes nothing.
+use mathlib.Core.Bool.{Bool, cond, not, _&&_}
+use Prim.Native.Nat.{ℕ, _-_}
+use lib.Dec.{eqb}
+use Rattle.calendar.specs.DayNumber.{dayNumber}
+use Rattle.calendar.specs.Target.{firstBusinessDay, lastBusinessDayBefore}
+use Rattle.calendar.specs.Periods.{daysAfter, monthsAfter, periodEnd, isAfter}
+use Rattle.calendar.specs.declared.Period.{Period}
+use Rattle.calendar.specs.declared.DateAnswer.{DateAnswer}
+use Rattle.calendar.specs.declared.DateAnswer.the-variants.{Date, NoDate}
+use Rattle.model.specs.Actions.{Way}
+use Rattle.model.specs.Actions.Way.{ByReturn, ByRefund, ByReversal}
+
+-- ---- the kept due
+
+-- a date that was worked out; from dates in range there is always one
+abbrev pub dateIn : DateAnswer → ℕ
+dateIn (Date x) = x
+dateIn NoDate = 0
+
+-- the first business day on or after the requested date
+unfoldable pub keptDue : ℕ → ℕ
+keptDue requested = dateIn (firstBusinessDay requested)
+
+-- ---- when a collect comes, refusal 13
+
+-- the requested date is at most 14 calendar days after the event date
+abbrev pub soonEnough : ℕ → ℕ → Bool
+soonEnough date requested = not (isAfter requested (daysAfter (record { 0 = 14 }) date))
+
+-- the event date is not after the last business day before the kept due
+abbrev pub earlyEnough : ℕ → ℕ → Bool
+earlyEnough date requested = not (isAfter date (lastBusinessDayBefore (keptDue requested)))
+
+unfoldable pub timely : ℕ → ℕ → Bool
+timely date requested = soonEnough date requested && earlyEnough date requested
+
+-- ---- last days, from the settled day
+
+abbrev pub period : ℕ → ℕ → ℕ → Period
+period months days business =
+    record { months = record { 0 = months }; days = record { 0 = days }; business = record { 0 = business } }
+
+-- the periods of a scheme
+pub record Profile : Type 0 where
+  pub returning : Period
+  pub reversing : Period
+  pub authorised : Period
+  pub unauthorised : Period
+
+-- the Core scheme, source 004
+abbrev pub core : Profile
+core = record {
+  returning = period 0 0 5;
+  reversing = period 0 0 5;
+  authorised = period 0 56 2;
+  unauthorised = period 13 30 4;
+}
+
+abbrev pub periodOf : Profile → Way → Period
+periodOf p ByReturn = p .returning
+periodOf p (ByRefund rate code) = cond (eqb code 0) (p .authorised) (p .unauthorised)
+periodOf p ByReversal = p .reversing
+
+unfoldable pub lastDay : Way → ℕ → DateAnswer
+lastDay way settled = periodEnd (periodOf core way) settled
+
+-- the event date is not after the last day
+abbrev pub inTime : Way → ℕ → ℕ → Bool
+inTime way settled date = not (isAfter date (lastDay way settled))
+
+-- calendar days from the settled day
+abbrev pub daysSince : ℕ → ℕ → ℕ
+daysSince settled date = dayNumber date - dayNumber settled
+
+-- ---- lapse
+
+-- 36 months after the kept due last presented, or after signing if there is none
+unfoldable pub lapseEnd : ℕ → ℕ → DateAnswer
+lapseEnd presented signed = monthsAfter (record { 0 = 36 }) (cond (eqb presented 0) signed presented)
+
+-- the mandate is lapsed for a collect of this kept due
+abbrev pub lapsedFor : ℕ → ℕ → ℕ → Bool
+lapsedFor due presented signed = isAfter due (lapseEnd presented signed)

@@ -1,0 +1,9 @@
+-- Document 01 over the whole ledger, in definitions; read in this order.
+pub mod Actions  -- "Ten events": what each event asks for
+pub mod Deadlines  -- "Ten events": kept due, last days and lapse
+pub mod Lookups  -- "Records": what the ledger has under a number
+pub mod Checks  -- "What is refused, in checking order"
+pub mod Effects  -- "Ten events" and "Postings": what an accepted event does
+pub mod Step  -- the calls: one event, one query, a list of events
+pub mod Journal  -- "The journal"
+pub mod Promises  -- demand 3: what is promised of every list of events
