@@ -2,11 +2,12 @@
 -- Assumes nothing.
 use Rattle.positions.proofs.Laws.Answers.{postSizes, index-held, post-no-entry, post-too-large, post-made, post-held}
 use Rattle.positions.proofs.Laws.Positions.{isEntry-entry, posted-index}
-use Rattle.positions.specs.Positions.{isEntry}
+use Rattle.positions.specs.Positions.{isEntry, within}
+use Rattle.positions.specs.Answers.{capacity}
 use Rattle.common.proofs.Tests.{not-true, not-false}
 use mir.Facts.{toZ-ofZ}
 use mathlib.Core.Bool.{true, _&&_}
-use mathlib.Core.Path.{_≡_, sym, _∙_}
+use mathlib.Core.Path.{_≡_, sym, _∙_, ap}
 use borrow.Author.Needs.{needs}
 use Rattle.positions.proofs.posting.post.Statement.{statement}
 use Rattle.positions.proofs.posting.post.Tie as tie
@@ -19,7 +20,10 @@ found c = sym (c .before .is-entry .ensures) ∙ not-false (c .if1 .left)
 sizes : (c : tie.After-in-capacity) → c .before .is-held .result && c .in-capacity .result ≡ postSizes (c .before .before .before .before .before .before .args .positions .now) (c .before .before .before .before .before .before .args .number) (c .before .before .before .before .before .before .args .amount)
 sizes c =
     let s = c .before .before .before .before .before .before in
-    rw (c .before .is-held .ensures, c .in-capacity .ensures, toZ-ofZ (s .fits .amount))
+    rw (
+      c .before .is-held .ensures,
+      c .in-capacity .ensures ∙ ap (within capacity) (toZ-ofZ (s .fits .amount)),
+    )
 
 is-entry-requires : tie.Need-is-entry-requires
 is-entry-requires c κs = search needs

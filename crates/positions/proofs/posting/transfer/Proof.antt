@@ -5,12 +5,13 @@ use Rattle.positions.proofs.Laws.Positions.{isEntry-entry, entry-posted
 use Rattle.positions.proofs.Laws.Integers.{minus-fits, minus-back}
 use native.Mathlib.Omega.{arith}
 use lib.IntN.{negℤ, natAbs}
-use Rattle.positions.specs.Positions.{isEntry, Entry, posted}
+use Rattle.positions.specs.Positions.{isEntry, Entry, posted, within}
+use Rattle.positions.specs.Answers.{capacity}
 use Rattle.common.proofs.Tests.{not-true, not-false, and-halves}
 use Prim.Native.Nat.{_<_, _^_}
 use mir.Facts.{toZ-ofZ}
 use mathlib.Core.Bool.{true, _&&_}
-use mathlib.Core.Path.{_≡_, sym, _∙_}
+use mathlib.Core.Path.{_≡_, sym, _∙_, ap}
 use borrow.Author.Needs.{needs}
 use Rattle.positions.proofs.posting.transfer.Statement.{statement}
 use Rattle.positions.proofs.posting.transfer.Tie as tie
@@ -29,8 +30,7 @@ sizes c =
     rw (
       c .before .before .before .is-held .ensures,
       c .before .is-held2 .ensures,
-      c .in-capacity .ensures,
-      toZ-ofZ (s .fits .amount),
+      c .in-capacity .ensures ∙ ap (within capacity) (toZ-ofZ (s .fits .amount)),
     )
 
 -- what both tests leave: two entries, and sizes that 64 bits hold
@@ -131,7 +131,9 @@ add-requires c κs =
     (index-held l k (negℤ x) (from-entry (c .before)) (transfer-held-from l k j x (small (c .before))))
 
 sub-add-3 : tie.Need-sub-add-3
-sub-add-3 c = to-entry (c .before .before .before .before) .low
+sub-add-3 c =
+    let h = c .before .before .before .before in
+    omega (arith, from-entry h .low, to-entry h .low)
 
 add-requires-2 : tie.Need-add-requires-2
 add-requires-2 c κs =
