@@ -4,7 +4,7 @@ ghost use mathlib.Core.Bool.{true};
 ghost use mathlib.Core.List.{_++_};
 ghost use Prim.Native.Nat.{_+_, _^_, _≤_, _<_};
 ghost use lib.ListN.{length, take, drop};
-ghost use Rattle.events.specs.Line.{lineLength, widths, readField, readNumber, readDigits, readFields, taken, answerOf, readLine, lastDigit, fieldBytes, pasted, lineOf, writeAnswer, bytesAfter};
+ghost use Rattle.events.specs.Line.{lineLength, widths, isDigit, readField, readNumber, readDigits, readFields, taken, answerOf, readLine, lastDigit, fieldBytes, pasted, lineOf, writeAnswer, bytesAfter};
 ghost use Rattle.events.specs.Limits.{checked};
 use crate::Event;
 use crate::limits::Checked;
@@ -48,6 +48,12 @@ fn wide(b: u8) -> u64
     b as u64
 }
 
+fn is_digit(b: u8) -> bool
+    ensures { λ r. ⌜ r ≡ isDigit b ⌝ }
+{
+    (ZERO <= b) & (b <= NINE)
+}
+
 // The blanks that a field begins with.
 fn blanks(field: &[u8]) -> usize
     ensures { λ n. ⌜ (n ≤ length (now (field .entry))) × (readField (now (field .entry)) ≡ readNumber (drop n (now (field .entry)))) ⌝ }
@@ -71,7 +77,7 @@ fn digits(field: &[u8], start: usize) -> FieldAnswer
     let mut i = start;
     while i < field.len() {
         let b = field[i];
-        if (b < ZERO) | (NINE < b) {
+        if !is_digit(b) {
             return FieldAnswer::NoValue;
         }
         v = v * 10 + wide(b - ZERO);

@@ -6,12 +6,12 @@ use mathlib.Core.Bool.{Bool, true, false, cond, _&&_}
 use mathlib.Core.List.{List, [], _∷_, _++_, append-assoc, append-nil}
 use mathlib.Core.Logic.{_⊎_, inl, inr, ⊎-elim}
 use Prim.Native.Nat.{ℕ, zero, suc, _+_, _-_, _*_, _/_, _%_, _^_, _≤_, _<_}
-use native.Mathlib.Nat.{pow-succ', one-le-pow, eq-zero-or-pos, eq-or-lt-of-le, add-zero, add-suc, suc-add}
+use native.Mathlib.Nat.{pow-succ', one-le-pow, eq-zero-or-pos, eq-or-lt-of-le, add-zero, add-suc, suc-add, lt-of-lt-of-le, pow-le-pow-right}
 use native.Mathlib.Numerals.{add-one}
 use native.Mathlib.Omega.{arith}
 use lib.Dec.{leb, ltb, eqb, lit≤, lit<}
-use lib.ListN.{length, take, drop, getD, set, replicate, length-append, length-take, length-drop, length-set, drop-of-length-le}
-use lib.Seq.{drop-cons, take-at, drop-at, drop-drop, take-add, length-take-le}
+use lib.ListN.{length, take, drop, getD, set, replicate, length-append, length-take, length-drop, take-append-drop, length-set, drop-of-length-le}
+use lib.Seq.{drop-cons, take-at, drop-at, take-set-le, lt-length-set, getD-set-same, drop-set-lt, drop-drop, take-add, length-take-le}
 use borrow.Author.Tests.{leb-true, le-leb, lt-leb, ltb-true, ltb-false, lt-ltb, le-ltb, eqb-true, eqb-false, eq-eqb, ne-eqb}
 use Rattle.common.proofs.Tests.{never, and-halves, and-true, true-or-false, false-unless}
 use Rattle.calendar.specs.Gregorian.{lastDate}
@@ -65,7 +65,7 @@ fieldBytes-padded w v h = sym (padded-more w v h)
 
 -- ---- readDigits, readNumber, readField
 
-digit-facts : (b : ℕ) → isDigit b ≡ true → (zeroDigit ≤ b) × (b ≤ 57)
+pub digit-facts : (b : ℕ) → isDigit b ≡ true → (zeroDigit ≤ b) × (b ≤ 57)
 digit-facts b e = let p = and-halves (leb zeroDigit b) e in (leb-true _ _ (p .0), leb-true _ _ (p .1))
 
 lastDigit-is-digit : (v : ℕ) → isDigit (lastDigit v) ≡ true
@@ -449,3 +449,111 @@ entries-drop vs i (suc n) h =
 -- nine fields are those of an event
 pub fieldsOf-eventOf : (vs : List ℕ) → length vs ≡ length widths → fieldsOf (eventOf vs) ≡ vs
 fieldsOf-eventOf vs h = entries-drop vs 0 9 h
+
+-- ---- reading from a place i of a field on
+
+module _ (l : List ℕ) (i : ℕ) where
+  pub readField-blank : i < length l → getD l i 0 ≡ blank → readField (drop i l) ≡ readField (drop (i + 1) l)
+  unfolding readField
+  readField-blank h e = rw (drop-cons l i 0 h, eq-eqb (getD l i 0) blank e, add-one)
+
+  pub readField-number : i < length l → (getD l i 0 ≡ blank → ⊥) → readField (drop i l) ≡ readNumber (drop i l)
+  unfolding readField
+  readField-number h n = rw (drop-cons l i 0 h, ne-eqb (getD l i 0) blank n)
+
+  pub readField-end : length l ≤ i → readField (drop i l) ≡ readNumber (drop i l)
+  unfolding readField readNumber
+  readField-end h = rw (drop-of-length-le l {i = i} h)
+
+  pub readNumber-end : length l ≤ i → readNumber (drop i l) ≡ NoValue
+  unfolding readNumber
+  readNumber-end h = rw (drop-of-length-le l {i = i} h)
+
+  more-behind : i < length l → ltb 0 (length (drop (suc i) l)) ≡ ltb (i + 1) (length l)
+  more-behind h =
+      let n = length-drop (suc i) l in
+      ⊎-elim
+      (λ t. lt-ltb 0 (length (drop (suc i) l)) (omega (arith, n, ltb-true (i + 1) (length l) t)) ∙ sym t)
+      (λ t. le-ltb 0 (length (drop (suc i) l)) (omega (arith, n, ltb-false (i + 1) (length l) t)) ∙ sym t)
+      (true-or-false (ltb (i + 1) (length l)))
+
+  pub readNumber-lead : i < length l
+      → eqb (getD l i 0) zeroDigit && ltb (i + 1) (length l) ≡ true
+      → readNumber (drop i l) ≡ NoValue
+  unfolding readNumber
+  readNumber-lead h t = rw (drop-cons l i 0 h, more-behind h, t)
+
+  pub readNumber-digits : i < length l
+      → eqb (getD l i 0) zeroDigit && ltb (i + 1) (length l) ≡ false
+      → readNumber (drop i l) ≡ readDigits 0 (drop i l)
+  unfolding readNumber
+  readNumber-digits h t = rw (drop-cons l i 0 h, more-behind h, t)
+
+  pub readDigits-digit : (v : ℕ)
+      → i < length l
+      → isDigit (getD l i 0) ≡ true
+      → readDigits v (drop i l) ≡ readDigits (v * 10 + (getD l i 0 - zeroDigit)) (drop (i + 1) l)
+  unfolding readDigits
+  readDigits-digit v h t = rw (drop-cons l i 0 h, t, add-one)
+
+  pub readDigits-other : (v : ℕ) → i < length l → isDigit (getD l i 0) ≡ false → readDigits v (drop i l) ≡ NoValue
+  unfolding readDigits
+  readDigits-other v h t = rw (drop-cons l i 0 h, t)
+
+  pub readDigits-end : (v : ℕ) → length l ≤ i → readDigits v (drop i l) ≡ Value v
+  unfolding readDigits
+  readDigits-end v h = rw (drop-of-length-le l {i = i} h)
+
+-- a number of i digits, i below the widest column, has room for one more
+pub narrow-room : (v i : ℕ) → v < 10 ^ i → i < 12 → v < 100000000000
+narrow-room v i h k = lt-of-lt-of-le h (pow-le-pow-right {n = 10} (lit< tt) {i = i} {j = 11} (omega arith))
+
+pub narrow-next : (v d i : ℕ) → v < 10 ^ i → d ≤ 9 → v * 10 + d < 10 ^ (i + 1)
+narrow-next v d i h k = rw (add-one, ten i) (omega arith)
+
+-- ---- reading a line field by field
+
+-- fields with the values vs before them
+abbrev pub after : List ℕ → Fields → Fields
+after [] f = f
+after (v ∷ vs) f = joined (Value v) (after vs f)
+
+after-joined : (vs : List ℕ) (v : ℕ) (f : Fields) → after vs (joined (Value v) f) ≡ after (vs ++ (v ∷ [])) f
+after-joined [] v f = refl
+after-joined (u ∷ vs) v f = ap (joined (Value u)) (after-joined vs v f)
+
+after-unreadable : (vs : List ℕ) → after vs Unreadable ≡ Unreadable
+after-unreadable [] = refl
+after-unreadable (v ∷ vs) = rw (after-unreadable vs)
+
+-- a field that was read joins those before it
+pub after-value : (vs ws l : List ℕ) (at w v : ℕ)
+    → readField (take w (drop at l)) ≡ Value v
+    → after vs (readFields (w ∷ ws) at l) ≡ after (vs ++ (v ∷ [])) (readFields ws (at + w) l)
+after-value vs ws l at w v e =
+    ap (λ (a : FieldAnswer). after vs (joined a (readFields ws (at + w) l))) e ∙ after-joined vs v (readFields ws (at + w) l)
+
+-- a field that cannot be read leaves nothing
+pub after-none : (vs ws l : List ℕ) (at w : ℕ)
+    → readField (take w (drop at l)) ≡ NoValue
+    → after vs (readFields (w ∷ ws) at l) ≡ Unreadable
+after-none vs ws l at w e =
+    ap (λ (a : FieldAnswer). after vs (joined a (readFields ws (at + w) l))) e ∙ after-unreadable vs
+
+-- ---- the buffer as a field is written to it, from its right edge on
+
+-- what stands behind i is written; the rest of the field, s, is still to come
+abbrev pub still : ℕ → ℕ → List ℕ → List ℕ → List ℕ
+still at i s out = take at out ++ (s ++ drop i out)
+
+-- a byte stored before i is the last of what was to come
+pub still-store : (at i b : ℕ) (s out : List ℕ)
+    → at ≤ i
+    → i < length out
+    → still at i s (set out i b) ≡ still at (i + 1) (s ++ (b ∷ [])) out
+still-store at i b s out l h =
+    rw (take-set-le at out i b l, drop-cons (set out i b) i 0 (lt-length-set out i b h), getD-set-same out i b 0 h, drop-set-lt (suc i) out i b (omega arith), add-one, append-assoc)
+
+-- nothing is to come
+pub still-none : (at : ℕ) (out : List ℕ) → still at at [] out ≡ out
+still-none at out = take-append-drop at out

@@ -1,41 +1,59 @@
+-- `blanks` passes over blanks: the field from place i on reads as the whole field.
+-- Assumes nothing.
+use Rattle.events.proofs.Laws.Line.{readField-blank, readField-number, readField-end}
+use Rattle.events.specs.Line.{readField}
+use lib.ListN.{length, drop}
+use mathlib.Core.Path.{_≡_, refl, _∙_}
+use Prim.Native.Nat.{_≤_, _-_}
+use borrow.Author.Needs.{needs}
 use Rattle.events.proofs.line.blanks.Statement.{statement}
 use Rattle.events.proofs.line.blanks.Tie as tie
 use Rattle.events.proofs.line.blanks.Reads as reads
 use Rattle.events.proofs.line.blanks.Lts as lts
 
 abbrev Inv-loop : tie.InvT-loop
-Inv-loop field i₀ i = ?
+Inv-loop field i₀ i = (i ≤ length field) × (readField field ≡ readField (drop i field))
 
 abbrev μ-loop : tie.MeasureT-loop
-μ-loop field i₀ i = ?
+μ-loop field i₀ i = length field - i
 
 -- src/line.rt:56:5
 loop-holds : tie.Need-loop-holds Inv-loop μ-loop
-loop-holds c = ?
+loop-holds c = (search needs, refl)
 
 -- src/line.rt:57:12
 shared-slice-read-if1 : tie.Need-shared-slice-read-if1 Inv-loop μ-loop
-shared-slice-read-if1 c = ?
+shared-slice-read-if1 c = search needs
 
 -- src/line.rt:58:13
 returns : tie.Need-returns Inv-loop μ-loop
-returns c = ?
+returns c =
+    (
+      search needs,
+      c .before .before .before .loop .inv .1
+          ∙ readField-number _ _ (c .before .before .loop-test .taken) (c .if1 .taken),
+    )
 
 -- src/line.rt:60:9
 add-i : tie.Need-add-i Inv-loop μ-loop
-add-i c = ?
+add-i c = search needs
 
 -- src/line.rt:56:5
 loop-less : tie.Need-loop-less Inv-loop μ-loop
-loop-less c = ?
+loop-less c = search needs
 
 -- src/line.rt:56:5
 loop-again : tie.Need-loop-again Inv-loop μ-loop
-loop-again c = ?
+loop-again c =
+    (
+      search needs,
+      c .before .before .before .loop .inv .1
+          ∙ readField-blank _ _ (c .before .before .loop-test .taken) (c .if1 .left),
+    )
 
 -- src/line.rt:52:1
 returns-2 : tie.Need-returns-2 Inv-loop μ-loop
-returns-2 c = ?
+returns-2 c = (c .before .loop .inv .0, c .before .loop .inv .1 ∙ readField-end _ _ (c .loop-test .left))
 
 pub blanks-spec : {M : Type 1} → statement M
 blanks-spec =

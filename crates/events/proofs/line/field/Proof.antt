@@ -1,3 +1,11 @@
+-- `field` reads the part of the line that the field is.
+-- Assumes nothing.
+use Rattle.events.specs.Line.{readField}
+use lib.ListN.{take, drop}
+use native.Mathlib.Omega.{arith}
+use Prim.Native.Nat.{ℕ, _+_, _-_}
+use mathlib.Core.Path.{_≡_, ap, _∙_}
+use mathlib.Core.Path.{sym, _∙_}
 use borrow.Author.Needs.{needs}
 use Rattle.events.proofs.line.field.Statement.{statement}
 use Rattle.events.proofs.line.field.Tie as tie
@@ -27,7 +35,10 @@ number-requires c κs = search needs
 
 -- src/line.rt:99:1
 returns : tie.Need-returns
-returns c = ?
+returns c =
+    let s = c .before .before .before .args in
+    let n : s .at + s .width - s .at ≡ s .width = omega arith in
+    c .number .ensures ∙ ap (λ (k : ℕ). readField (take k (drop (s .at) (s .line .now)))) n
 
 pub field-spec : {M : Type 1} → statement M
 field-spec =

@@ -1,3 +1,12 @@
+-- `fields` reads field by field. At each place: the line, the values that were read of it, and that they and what is
+-- still to be read are all that is read of it. Assumes nothing.
+use Rattle.events.proofs.Laws.Line.{after, after-value, after-none}
+use Rattle.events.specs.Line.{widths, readFields, taken}
+use lib.Dec.{lit≤}
+use native.Mathlib.Omega.{arith}
+use Prim.Native.Nat.{ℕ}
+use mathlib.Core.List.{List, [], _∷_, _++_}
+use mathlib.Core.Path.{_≡_, sym, ap, _∙_}
 use borrow.Author.Needs.{needs}
 use Rattle.events.proofs.line.fields.Statement.{statement}
 use Rattle.events.proofs.line.fields.Tie as tie
@@ -6,157 +15,308 @@ use Rattle.events.proofs.line.fields.Lts as lts
 use Rattle.events.proofs.line.field.Reads as field-reads
 use Rattle.events.proofs.line.judged.Reads as judged-reads
 
--- src/line.rt:112:36
+abbrev line1 : tie.After-known-told → List ℕ
+line1 c = c .before .before .before .before .before .args .line .now
+
+abbrev values1 : tie.After-known-told → List ℕ
+values1 c = c .before .kind .given .0 .0 ∷ []
+
+after1 : (c : tie.After-known-told) → readFields widths 0 (line1 c) ≡ after (values1 c) (readFields (9 ∷ 10 ∷ 10 ∷ 10 ∷ 10 ∷ 12 ∷ 9 ∷ 2 ∷ []) 2 (line1 c))
+after1 c =
+    after-value [] (9 ∷ 10 ∷ 10 ∷ 10 ∷ 10 ∷ 12 ∷ 9 ∷ 2 ∷ []) (line1 c) 0 2 (c .before .kind .given .0 .0)
+    (sym (c .before .before .before .field .ensures) ∙ c .before .kind .given .1)
+
+abbrev line2 : tie.After-known-told2 → List ℕ
+line2 c = line1 (c .before .before .before .before)
+
+abbrev values2 : tie.After-known-told2 → List ℕ
+values2 c = values1 (c .before .before .before .before) ++ (c .before .date .given .0 .0 ∷ [])
+
+after2 : (c : tie.After-known-told2) → readFields widths 0 (line2 c) ≡ after (values2 c) (readFields (10 ∷ 10 ∷ 10 ∷ 10 ∷ 12 ∷ 9 ∷ 2 ∷ []) 11 (line2 c))
+after2 c =
+    after1 (c .before .before .before .before)
+    ∙ after-value (values1 (c .before .before .before .before)) (10 ∷ 10 ∷ 10 ∷ 10 ∷ 12 ∷ 9 ∷ 2 ∷ []) (line2 c) 2 9 (c .before .date .given .0 .0)
+    (sym (c .before .before .before .field2 .ensures) ∙ c .before .date .given .1)
+
+abbrev line3 : tie.After-known-told3 → List ℕ
+line3 c = line2 (c .before .before .before .before)
+
+abbrev values3 : tie.After-known-told3 → List ℕ
+values3 c = values2 (c .before .before .before .before) ++ (c .before .mandate .given .0 .0 ∷ [])
+
+after3 : (c : tie.After-known-told3) → readFields widths 0 (line3 c) ≡ after (values3 c) (readFields (10 ∷ 10 ∷ 10 ∷ 12 ∷ 9 ∷ 2 ∷ []) 21 (line3 c))
+after3 c =
+    after2 (c .before .before .before .before)
+    ∙ after-value (values2 (c .before .before .before .before)) (10 ∷ 10 ∷ 10 ∷ 12 ∷ 9 ∷ 2 ∷ []) (line3 c) 11 10 (c .before .mandate .given .0 .0)
+    (sym (c .before .before .before .field3 .ensures) ∙ c .before .mandate .given .1)
+
+abbrev line4 : tie.After-known-told4 → List ℕ
+line4 c = line3 (c .before .before .before .before)
+
+abbrev values4 : tie.After-known-told4 → List ℕ
+values4 c = values3 (c .before .before .before .before) ++ (c .before .a .given .0 .0 ∷ [])
+
+after4 : (c : tie.After-known-told4) → readFields widths 0 (line4 c) ≡ after (values4 c) (readFields (10 ∷ 10 ∷ 12 ∷ 9 ∷ 2 ∷ []) 31 (line4 c))
+after4 c =
+    after3 (c .before .before .before .before)
+    ∙ after-value (values3 (c .before .before .before .before)) (10 ∷ 10 ∷ 12 ∷ 9 ∷ 2 ∷ []) (line4 c) 21 10 (c .before .a .given .0 .0)
+    (sym (c .before .before .before .field4 .ensures) ∙ c .before .a .given .1)
+
+abbrev line5 : tie.After-known-told5 → List ℕ
+line5 c = line4 (c .before .before .before .before)
+
+abbrev values5 : tie.After-known-told5 → List ℕ
+values5 c = values4 (c .before .before .before .before) ++ (c .before .b .given .0 .0 ∷ [])
+
+after5 : (c : tie.After-known-told5) → readFields widths 0 (line5 c) ≡ after (values5 c) (readFields (10 ∷ 12 ∷ 9 ∷ 2 ∷ []) 41 (line5 c))
+after5 c =
+    after4 (c .before .before .before .before)
+    ∙ after-value (values4 (c .before .before .before .before)) (10 ∷ 12 ∷ 9 ∷ 2 ∷ []) (line5 c) 31 10 (c .before .b .given .0 .0)
+    (sym (c .before .before .before .field5 .ensures) ∙ c .before .b .given .1)
+
+abbrev line6 : tie.After-known-told6 → List ℕ
+line6 c = line5 (c .before .before .before .before)
+
+abbrev values6 : tie.After-known-told6 → List ℕ
+values6 c = values5 (c .before .before .before .before) ++ (c .before .c .given .0 .0 ∷ [])
+
+after6 : (c : tie.After-known-told6) → readFields widths 0 (line6 c) ≡ after (values6 c) (readFields (12 ∷ 9 ∷ 2 ∷ []) 51 (line6 c))
+after6 c =
+    after5 (c .before .before .before .before)
+    ∙ after-value (values5 (c .before .before .before .before)) (12 ∷ 9 ∷ 2 ∷ []) (line6 c) 41 10 (c .before .c .given .0 .0)
+    (sym (c .before .before .before .field6 .ensures) ∙ c .before .c .given .1)
+
+abbrev line7 : tie.After-known-told7 → List ℕ
+line7 c = line6 (c .before .before .before .before)
+
+abbrev values7 : tie.After-known-told7 → List ℕ
+values7 c = values6 (c .before .before .before .before) ++ (c .before .amount .given .0 .0 ∷ [])
+
+after7 : (c : tie.After-known-told7) → readFields widths 0 (line7 c) ≡ after (values7 c) (readFields (9 ∷ 2 ∷ []) 63 (line7 c))
+after7 c =
+    after6 (c .before .before .before .before)
+    ∙ after-value (values6 (c .before .before .before .before)) (9 ∷ 2 ∷ []) (line7 c) 51 12 (c .before .amount .given .0 .0)
+    (sym (c .before .before .before .field7 .ensures) ∙ c .before .amount .given .1)
+
+abbrev line8 : tie.After-known-told8 → List ℕ
+line8 c = line7 (c .before .before .before .before)
+
+abbrev values8 : tie.After-known-told8 → List ℕ
+values8 c = values7 (c .before .before .before .before) ++ (c .before .second .given .0 .0 ∷ [])
+
+after8 : (c : tie.After-known-told8) → readFields widths 0 (line8 c) ≡ after (values8 c) (readFields (2 ∷ []) 72 (line8 c))
+after8 c =
+    after7 (c .before .before .before .before)
+    ∙ after-value (values7 (c .before .before .before .before)) (2 ∷ []) (line8 c) 63 9 (c .before .second .given .0 .0)
+    (sym (c .before .before .before .field8 .ensures) ∙ c .before .second .given .1)
+
+abbrev line9 : tie.After-known-told9 → List ℕ
+line9 c = line8 (c .before .before .before .before)
+
+abbrev values9 : tie.After-known-told9 → List ℕ
+values9 c = values8 (c .before .before .before .before) ++ (c .before .code .given .0 .0 ∷ [])
+
+after9 : (c : tie.After-known-told9) → readFields widths 0 (line9 c) ≡ after (values9 c) (readFields [] 74 (line9 c))
+after9 c =
+    after8 (c .before .before .before .before)
+    ∙ after-value (values8 (c .before .before .before .before)) [] (line9 c) 72 2 (c .before .code .given .0 .0)
+    (sym (c .before .before .before .field9 .ensures) ∙ c .before .code .given .1)
+
+-- src/line.rt:118:36
 field-requires : tie.Need-field-requires
 field-requires c κs = search needs
 
--- src/line.rt:112:28
+-- src/line.rt:118:28
 enum-known-kind : tie.Need-enum-known-kind
 enum-known-kind c = search needs
 
--- src/line.rt:113:36
+-- src/line.rt:119:36
 enum-told : tie.Need-enum-told
 enum-told c = search needs
 
--- src/line.rt:113:9
+-- src/line.rt:119:9
 returns : tie.Need-returns
-returns c = ?
+returns c =
+    ap taken
+    (sym
+    (after-none [] (9 ∷ 10 ∷ 10 ∷ 10 ∷ 10 ∷ 12 ∷ 9 ∷ 2 ∷ []) (c .before .before .before .before .args .line .now) 0 2
+    (sym (c .before .before .field .ensures) ∙ c .enum-told .given .1)))
 
--- src/line.rt:115:36
+-- src/line.rt:121:36
 field-requires-2 : tie.Need-field-requires-2
 field-requires-2 c κs = search needs
 
--- src/line.rt:115:28
+-- src/line.rt:121:28
 enum-known-date : tie.Need-enum-known-date
 enum-known-date c = search needs
 
--- src/line.rt:116:36
+-- src/line.rt:122:36
 enum-told-2 : tie.Need-enum-told-2
 enum-told-2 c = search needs
 
--- src/line.rt:116:9
+-- src/line.rt:122:9
 returns-2 : tie.Need-returns-2
-returns-2 c = ?
+returns-2 c =
+    ap taken
+    (sym
+    (after1 (c .before .before .before)
+    ∙ after-none (values1 (c .before .before .before)) (10 ∷ 10 ∷ 10 ∷ 10 ∷ 12 ∷ 9 ∷ 2 ∷ []) (line1 (c .before .before .before)) 2 9
+    (sym (c .before .before .field2 .ensures) ∙ c .enum-told2 .given .1)))
 
--- src/line.rt:118:39
+-- src/line.rt:124:39
 field-requires-3 : tie.Need-field-requires-3
 field-requires-3 c κs = search needs
 
--- src/line.rt:118:28
+-- src/line.rt:124:28
 enum-known-mandate : tie.Need-enum-known-mandate
 enum-known-mandate c = search needs
 
--- src/line.rt:119:36
+-- src/line.rt:125:36
 enum-told-3 : tie.Need-enum-told-3
 enum-told-3 c = search needs
 
--- src/line.rt:119:9
+-- src/line.rt:125:9
 returns-3 : tie.Need-returns-3
-returns-3 c = ?
+returns-3 c =
+    ap taken
+    (sym
+    (after2 (c .before .before .before)
+    ∙ after-none (values2 (c .before .before .before)) (10 ∷ 10 ∷ 10 ∷ 12 ∷ 9 ∷ 2 ∷ []) (line2 (c .before .before .before)) 11 10
+    (sym (c .before .before .field3 .ensures) ∙ c .enum-told3 .given .1)))
 
--- src/line.rt:121:33
+-- src/line.rt:127:33
 field-requires-4 : tie.Need-field-requires-4
 field-requires-4 c κs = search needs
 
--- src/line.rt:121:28
+-- src/line.rt:127:28
 enum-known-a : tie.Need-enum-known-a
 enum-known-a c = search needs
 
--- src/line.rt:122:36
+-- src/line.rt:128:36
 enum-told-4 : tie.Need-enum-told-4
 enum-told-4 c = search needs
 
--- src/line.rt:122:9
+-- src/line.rt:128:9
 returns-4 : tie.Need-returns-4
-returns-4 c = ?
+returns-4 c =
+    ap taken
+    (sym
+    (after3 (c .before .before .before)
+    ∙ after-none (values3 (c .before .before .before)) (10 ∷ 10 ∷ 12 ∷ 9 ∷ 2 ∷ []) (line3 (c .before .before .before)) 21 10
+    (sym (c .before .before .field4 .ensures) ∙ c .enum-told4 .given .1)))
 
--- src/line.rt:124:33
+-- src/line.rt:130:33
 field-requires-5 : tie.Need-field-requires-5
 field-requires-5 c κs = search needs
 
--- src/line.rt:124:28
+-- src/line.rt:130:28
 enum-known-b : tie.Need-enum-known-b
 enum-known-b c = search needs
 
--- src/line.rt:125:36
+-- src/line.rt:131:36
 enum-told-5 : tie.Need-enum-told-5
 enum-told-5 c = search needs
 
--- src/line.rt:125:9
+-- src/line.rt:131:9
 returns-5 : tie.Need-returns-5
-returns-5 c = ?
+returns-5 c =
+    ap taken
+    (sym
+    (after4 (c .before .before .before)
+    ∙ after-none (values4 (c .before .before .before)) (10 ∷ 12 ∷ 9 ∷ 2 ∷ []) (line4 (c .before .before .before)) 31 10
+    (sym (c .before .before .field5 .ensures) ∙ c .enum-told5 .given .1)))
 
--- src/line.rt:127:33
+-- src/line.rt:133:33
 field-requires-6 : tie.Need-field-requires-6
 field-requires-6 c κs = search needs
 
--- src/line.rt:127:28
+-- src/line.rt:133:28
 enum-known-c : tie.Need-enum-known-c
 enum-known-c c = search needs
 
--- src/line.rt:128:36
+-- src/line.rt:134:36
 enum-told-6 : tie.Need-enum-told-6
 enum-told-6 c = search needs
 
--- src/line.rt:128:9
+-- src/line.rt:134:9
 returns-6 : tie.Need-returns-6
-returns-6 c = ?
+returns-6 c =
+    ap taken
+    (sym
+    (after5 (c .before .before .before)
+    ∙ after-none (values5 (c .before .before .before)) (12 ∷ 9 ∷ 2 ∷ []) (line5 (c .before .before .before)) 41 10
+    (sym (c .before .before .field6 .ensures) ∙ c .enum-told6 .given .1)))
 
--- src/line.rt:130:38
+-- src/line.rt:136:38
 field-requires-7 : tie.Need-field-requires-7
 field-requires-7 c κs = search needs
 
--- src/line.rt:130:28
+-- src/line.rt:136:28
 enum-known-amount : tie.Need-enum-known-amount
 enum-known-amount c = search needs
 
--- src/line.rt:131:36
+-- src/line.rt:137:36
 enum-told-7 : tie.Need-enum-told-7
 enum-told-7 c = search needs
 
--- src/line.rt:131:9
+-- src/line.rt:137:9
 returns-7 : tie.Need-returns-7
-returns-7 c = ?
+returns-7 c =
+    ap taken
+    (sym
+    (after6 (c .before .before .before)
+    ∙ after-none (values6 (c .before .before .before)) (9 ∷ 2 ∷ []) (line6 (c .before .before .before)) 51 12
+    (sym (c .before .before .field7 .ensures) ∙ c .enum-told7 .given .1)))
 
--- src/line.rt:133:38
+-- src/line.rt:139:38
 field-requires-8 : tie.Need-field-requires-8
-field-requires-8 c κs = ?
+field-requires-8 c κs = (omega (arith, c .before .before .before .before .before .before .before .before .before .before .before .before .before .before .before .before .before .before .before .before .before .before .before .before .before .before .before .before .before .pre), lit≤ tt)
 
--- src/line.rt:133:28
+-- src/line.rt:139:28
 enum-known-second : tie.Need-enum-known-second
 enum-known-second c = search needs
 
--- src/line.rt:134:36
+-- src/line.rt:140:36
 enum-told-8 : tie.Need-enum-told-8
 enum-told-8 c = search needs
 
--- src/line.rt:134:9
+-- src/line.rt:140:9
 returns-8 : tie.Need-returns-8
-returns-8 c = ?
+returns-8 c =
+    ap taken
+    (sym
+    (after7 (c .before .before .before)
+    ∙ after-none (values7 (c .before .before .before)) (2 ∷ []) (line7 (c .before .before .before)) 63 9
+    (sym (c .before .before .field8 .ensures) ∙ c .enum-told8 .given .1)))
 
--- src/line.rt:136:36
+-- src/line.rt:142:36
 field-requires-9 : tie.Need-field-requires-9
-field-requires-9 c κs = ?
+field-requires-9 c κs = (omega (arith, c .before .before .before .before .before .before .before .before .before .before .before .before .before .before .before .before .before .before .before .before .before .before .before .before .before .before .before .before .before .before .before .before .before .pre), lit≤ tt)
 
--- src/line.rt:136:28
+-- src/line.rt:142:28
 enum-known-code : tie.Need-enum-known-code
 enum-known-code c = search needs
 
--- src/line.rt:137:36
+-- src/line.rt:143:36
 enum-told-9 : tie.Need-enum-told-9
 enum-told-9 c = search needs
 
--- src/line.rt:137:9
+-- src/line.rt:143:9
 returns-9 : tie.Need-returns-9
-returns-9 c = ?
+returns-9 c =
+    ap taken
+    (sym
+    (after8 (c .before .before .before)
+    ∙ after-none (values8 (c .before .before .before)) [] (line8 (c .before .before .before)) 72 2
+    (sym (c .before .before .field9 .ensures) ∙ c .enum-told9 .given .1)))
 
--- src/line.rt:139:5
+-- src/line.rt:145:5
 judged-requires : tie.Need-judged-requires
 judged-requires c κs = search needs
 
--- src/line.rt:108:1
+-- src/line.rt:114:1
 returns-10 : tie.Need-returns-10
-returns-10 c = ?
+returns-10 c = c .judged .ensures ∙ ap taken (sym (after9 (c .before)))
 
 pub fields-spec : {M : Type 1} → statement M
 fields-spec =

@@ -1,3 +1,5 @@
+-- `judged` goes by the answer of `check`.
+-- Assumes nothing.
 use borrow.Author.Needs.{needs}
 use Rattle.events.proofs.line.judged.Statement.{statement}
 use Rattle.events.proofs.line.judged.Tie as tie
@@ -19,11 +21,11 @@ enum-known-r c = search needs
 
 -- src/line.rt:153:1
 returns : tie.Need-returns
-returns c = ?
+returns c = rw (← c .before .before .check .ensures, c .enum-told .given .1)
 
 -- src/line.rt:153:1
 returns-2 : tie.Need-returns-2
-returns-2 c = ?
+returns-2 c = rw (← c .before .before .before .check .ensures, c .before .r .given .1)
 
 pub judged-spec : {M : Type 1} → statement M
 judged-spec = tie.close (tie.spec check-requires enum-told enum-known-r returns returns-2)

@@ -1,3 +1,7 @@
+-- `number` reads what stands behind the blanks.
+-- Assumes nothing.
+use Rattle.events.proofs.Laws.Line.{readNumber-lead, readNumber-digits, readNumber-end}
+use mathlib.Core.Path.{sym, _∙_}
 use borrow.Author.Needs.{needs}
 use Rattle.events.proofs.line.number.Statement.{statement}
 use Rattle.events.proofs.line.number.Tie as tie
@@ -20,7 +24,7 @@ add-if2 c = search needs
 
 -- src/line.rt:91:13
 returns : tie.Need-returns
-returns c = ?
+returns c = sym (c .before .before .before .blanks .ensures .1 ∙ readNumber-lead _ _ (c .before .before .if1 .taken) (c .if2 .taken))
 
 -- src/line.rt:93:9
 digits-requires : tie.Need-digits-requires
@@ -28,11 +32,13 @@ digits-requires c κs = search needs
 
 -- src/line.rt:93:9
 returns-2 : tie.Need-returns-2
-returns-2 c = ?
+returns-2 c =
+    c .digits .ensures
+    ∙ sym (c .before .before .before .before .blanks .ensures .1 ∙ readNumber-digits _ _ (c .before .before .before .if1 .taken) (c .before .if2 .left))
 
 -- src/line.rt:84:1
 returns-3 : tie.Need-returns-3
-returns-3 c = ?
+returns-3 c = sym (c .before .blanks .ensures .1 ∙ readNumber-end _ _ (c .if1 .left))
 
 pub number-spec : {M : Type 1} → statement M
 number-spec =

@@ -8,7 +8,7 @@ abbrev Inv-loop : tie.InvT-loop
 Inv-loop out₀ at width v i₀ rest₀ out i rest = ?
 
 abbrev μ-loop : tie.MeasureT-loop
-μ-loop out₀ at width v i₀ rest₀ out i rest = ?
+μ-loop out₀ at width v i₀ rest₀ out i rest = i - at
 
 -- src/line.rt:187:17
 add-i : tie.Need-add-i Inv-loop μ-loop
