@@ -1,3 +1,10 @@
+use Rattle.tables.proofs.Laws.Fitness.{sizes-facts, header-facts, fit-no-sizes, fit-no-header, fit-contents}
+use Rattle.tables.specs.Fitness.{sizesFit, headerFit}
+use Rattle.tables.specs.Ledger.{Ledger, ledger}
+use borrow.Author.Tests.{not-true, not-false}
+use native.Mathlib.Omega.{arith}
+use mathlib.Core.Bool.{true, false}
+use mathlib.Core.Path.{_≡_, sym, _∙_}
 use borrow.Author.Needs.{needs}
 use Rattle.tables.proofs.fitness.is_fit.Statement.{statement}
 use Rattle.tables.proofs.fitness.is_fit.Tie as tie
@@ -10,13 +17,24 @@ use Rattle.tables.proofs.fitness.mandates_fit.Reads as mandates-fit-rea
 use Rattle.tables.proofs.fitness.positions_fit.Reads as positions-fit-reads
 use Rattle.tables.proofs.fitness.sizes_fit.Reads as sizes-fit-reads
 
+abbrev book : tie.Start → Ledger
+book s =
+    ledger
+    (s .args .header)
+    (s .args .mandates .now)
+    (s .args .collections .now)
+    (s .args .creditors .now)
+    (s .args .creditor-positions .now)
+    (s .args .debtor-positions .now)
+    (s .args .bank-positions .now)
+
 -- src/fitness.rt:208:9
 sizes-fit-requires : tie.Need-sizes-fit-requires
 sizes-fit-requires c κs = search needs
 
 -- src/fitness.rt:216:9
 returns : tie.Need-returns
-returns c = ?
+returns c = sym (fit-no-sizes (book (c .before .before .before .before .before)) (sym (c .before .sizes-fit .ensures) ∙ not-true _ (c .if1 .taken)))
 
 -- src/fitness.rt:218:9
 header-fit-requires : tie.Need-header-fit-requires
@@ -24,19 +42,28 @@ header-fit-requires c κs = search needs
 
 -- src/fitness.rt:219:9
 returns-2 : tie.Need-returns-2
-returns-2 c = ?
+returns-2 c =
+    let sizes : sizesFit (book (c .before .before .before .before .before .before .before)) ≡ true = sym (c .before .before .before .sizes-fit .ensures) ∙ not-false _ (c .before .before .if1 .left) in
+    sym (fit-no-header (book (c .before .before .before .before .before .before .before)) sizes (sym (c .before .header-fit .ensures) ∙ not-true _ (c .if2 .taken)))
 
 -- src/fitness.rt:221:5
 mandates-fit-requires : tie.Need-mandates-fit-requires
-mandates-fit-requires c κs = ?
+mandates-fit-requires c κs =
+    let header : headerFit (book (c .before .before .before .before .before .before .before)) ≡ true = sym (c .before .header-fit .ensures) ∙ not-false _ (c .if2 .left) in
+    header-facts (book (c .before .before .before .before .before .before .before)) header .mandates-lent
 
 -- src/fitness.rt:222:11
 collections-fit-requires : tie.Need-collections-fit-requires
-collections-fit-requires c κs = ?
+collections-fit-requires c κs =
+    let header : headerFit (book (c .before .before .before .before .before .before .before .before)) ≡ true = sym (c .before .before .header-fit .ensures) ∙ not-false _ (c .before .if2 .left) in
+    header-facts (book (c .before .before .before .before .before .before .before .before)) header .collections-lent
 
 -- src/fitness.rt:223:11
 creditors-fit-requires : tie.Need-creditors-fit-requires
-creditors-fit-requires c κs = ?
+creditors-fit-requires c κs =
+    let sizes : sizesFit (book (c .before .before .before .before .before .before .before .before .before)) ≡ true = sym (c .before .before .before .before .before .sizes-fit .ensures) ∙ not-false _ (c .before .before .before .before .if1 .left) in
+    let s = sizes-facts (book (c .before .before .before .before .before .before .before .before .before)) sizes in
+    omega (arith, s .creditor-table, s .creditor-positions)
 
 -- src/fitness.rt:224:11
 positions-fit-requires : tie.Need-positions-fit-requires
@@ -48,7 +75,17 @@ positions-fit-requires-2 c κs = search needs
 
 -- src/fitness.rt:197:1
 returns-3 : tie.Need-returns-3
-returns-3 c = ?
+returns-3 c =
+    let sizes : sizesFit (book (c .before .before .before .before .before .before .before .before .before .before .before .before)) ≡ true = sym (c .before .before .before .before .before .before .before .before .sizes-fit .ensures) ∙ not-false _ (c .before .before .before .before .before .before .before .if1 .left) in
+    let header : headerFit (book (c .before .before .before .before .before .before .before .before .before .before .before .before)) ≡ true = sym (c .before .before .before .before .before .before .header-fit .ensures) ∙ not-false _ (c .before .before .before .before .before .if2 .left) in
+    rw (
+      fit-contents (book (c .before .before .before .before .before .before .before .before .before .before .before .before)) sizes header,
+      c .before .before .before .before .mandates-fit .ensures,
+      c .before .before .before .collections-fit .ensures,
+      c .before .before .creditors-fit .ensures,
+      c .before .positions-fit .ensures,
+      c .positions-fit2 .ensures,
+    )
 
 pub is-fit-spec : {M : Type 1} → statement M
 is-fit-spec =

@@ -1,3 +1,12 @@
+use Rattle.tables.proofs.Laws.Opening.{opening-refused, opening-done}
+use Rattle.tables.proofs.Laws.Fitness.{sizes-facts}
+use Rattle.tables.specs.Opening.{fresh}
+use Rattle.tables.specs.Fitness.{sizesFit, headerFit}
+use Rattle.tables.specs.Ledger.{Ledger, ledger}
+use borrow.Author.Tests.{not-true, not-false}
+use native.Mathlib.Omega.{arith}
+use mathlib.Core.Bool.{true, false}
+use mathlib.Core.Path.{_≡_, sym, _∙_}
 use borrow.Author.Needs.{needs}
 use Rattle.tables.proofs.opening.open_ledger.Statement.{statement}
 use Rattle.tables.proofs.opening.open_ledger.Tie as tie
@@ -6,6 +15,17 @@ use Rattle.tables.proofs.opening.open_ledger.Lts as lts
 use Rattle.tables.proofs.fitness.sizes_fit.Reads as sizes-fit-reads
 use Rattle.tables.proofs.opening.clear_cells.Reads as clear-cells-reads
 use Rattle.tables.proofs.opening.clear_positions.Reads as clear-positions-reads
+
+abbrev book : tie.Start → Ledger
+book s =
+    ledger
+    (s .args .header)
+    (s .args .mandates .now)
+    (s .args .collections .now)
+    (s .args .creditors .now)
+    (s .args .creditor-positions .now)
+    (s .args .debtor-positions .now)
+    (s .args .bank-positions .now)
 
 -- src/opening.rt:46:9
 sizes-fit-requires : tie.Need-sizes-fit-requires
@@ -29,7 +49,7 @@ same-length-4 c = search needs
 
 -- src/opening.rt:54:9
 returns : tie.Need-returns
-returns c = ?
+returns c = sym (opening-refused (book (c .before .before .before .before .before .before .before .before .before)) (sym (c .before .sizes-fit .ensures) ∙ not-true _ (c .if1 .taken)))
 
 -- src/opening.rt:59:5
 clear-cells-requires : tie.Need-clear-cells-requires
@@ -65,7 +85,21 @@ same-length-8 c = search needs
 
 -- src/opening.rt:34:1
 returns-2 : tie.Need-returns-2
-returns-2 c = ?
+unfolding fresh
+returns-2 c =
+    let sizes : sizesFit (book (c .before .before .before .before .before .before .before .before .before .before .before .before .before .before .before .before .before .before .before .before .before .before)) ≡ true = sym (c .before .before .before .before .before .before .before .before .before .before .before .before .before .before .sizes-fit .ensures) ∙ not-false _ (c .before .before .before .before .before .before .before .before .before .before .before .before .before .if1 .left) in
+    let s = sizes-facts (book (c .before .before .before .before .before .before .before .before .before .before .before .before .before .before .before .before .before .before .before .before .before .before)) sizes in
+    rw (
+      opening-done (book (c .before .before .before .before .before .before .before .before .before .before .before .before .before .before .before .before .before .before .before .before .before .before)) sizes,
+      c .before .before .before .before .before .before .before .before .before .before .before .clear-cells .ensures,
+      c .before .before .before .before .before .before .before .clear-positions .ensures,
+      c .before .before .before .before .clear-positions2 .ensures,
+      c .before .clear-positions3 .ensures,
+      s .creditor-table,
+      s .creditor-positions,
+      s .debtor-positions,
+      s .bank-positions,
+    )
 
 pub open-ledger-spec : {M : Type 1} → statement M
 open-ledger-spec =
