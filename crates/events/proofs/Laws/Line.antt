@@ -4,13 +4,13 @@
 use mathlib.Core.Path.{_≡_, refl, sym, _∙_, ap, subst}
 use mathlib.Core.Bool.{Bool, true, false, cond, _&&_}
 use mathlib.Core.List.{List, [], _∷_, _++_, append-assoc, append-nil}
-use mathlib.Core.Logic.{_⊎_, inl, inr, ⊎-elim}
-use Prim.Native.Nat.{ℕ, zero, suc, _+_, _-_, _*_, _/_, _%_, _^_, _≤_, _<_}
-use native.Mathlib.Nat.{pow-succ', one-le-pow, eq-zero-or-pos, eq-or-lt-of-le, add-zero, add-suc, suc-add, lt-of-lt-of-le, pow-le-pow-right}
+use mathlib.Core.Logic.{_⊎_, ⊎-elim}
+use Prim.Native.Nat.{ℕ, zero, suc, _+_, _-_, _*_, _/_, _^_, _≤_, _<_}
+use native.Mathlib.Nat.{pow-succ', one-le-pow, eq-zero-or-pos, eq-or-lt-of-le, add-zero, lt-of-lt-of-le, pow-le-pow-right}
 use native.Mathlib.Numerals.{add-one}
 use native.Mathlib.Omega.{arith}
-use lib.Dec.{leb, ltb, eqb, lit≤, lit<}
-use lib.ListN.{length, take, drop, getD, set, replicate, length-append, length-take, length-drop, take-append-drop, length-set, drop-of-length-le}
+use lib.Dec.{leb, ltb, eqb, lit<}
+use lib.ListN.{length, take, drop, getD, set, length-append, length-drop, take-append-drop, drop-of-length-le}
 use lib.Seq.{drop-cons, take-at, drop-at, set-at, take-set-le, lt-length-set, getD-set-same, drop-set-lt, drop-drop, take-add, length-take-le}
 use borrow.Author.Tests.{leb-true, le-leb, lt-leb, ltb-true, ltb-false, lt-ltb, le-ltb, eqb-true, eqb-false, eq-eqb, ne-eqb}
 use Rattle.common.proofs.Tests.{never, and-halves, and-true, true-or-false, false-unless}
@@ -191,7 +191,7 @@ readField-more : (v d : ℕ) (l : List ℕ)
     → readField (l ++ (d ∷ [])) ≡ Value (v * 10 + (d - zeroDigit))
 unfolding readField
 readField-more v d [] h g e = let z : _≡_ {A = ℕ} 0 1 = cc in absurd (omega arith)
-readField-more v d (b ∷ bs) h g e = 
+readField-more v d (b ∷ bs) h g e =
     ⊎-elim (λ t. rw t (readField-more v d bs h g (rw t at e)))
     (λ t. rw t (readNumber-more v d (b ∷ bs) h g (rw t at e)))
     (true-or-false (eqb b blank))
@@ -214,13 +214,13 @@ module _ (w : ℕ) (above : (q : ℕ) → 0 < q → q < 10 ^ w → readField (pa
   readField-last v h =
       ⊎-elim
       (λ z.
-        ap (λ (q : ℕ). readField (padded w q ++ (lastDigit v ∷ []))) z
-        ∙ readField-blanks w (lastDigit v ∷ [])
-        ∙ readField-digit (lastDigit v) (lastDigit-is-digit v)
-        ∙ ap Value (omega arith))
+      ap (λ (q : ℕ). readField (padded w q ++ (lastDigit v ∷ []))) z
+      ∙ readField-blanks w (lastDigit v ∷ [])
+      ∙ readField-digit (lastDigit v) (lastDigit-is-digit v)
+      ∙ ap Value (omega arith))
       (λ p.
-        readField-more (v / 10) (lastDigit v) (padded w (v / 10)) p (lastDigit-is-digit v) (above (v / 10) p (div-narrow w v h))
-        ∙ ap Value (omega arith))
+      readField-more (v / 10) (lastDigit v) (padded w (v / 10)) p (lastDigit-is-digit v) (above (v / 10) p (div-narrow w v h))
+      ∙ ap Value (omega arith))
       (eq-zero-or-pos (v / 10))
 
 readField-padded : (w v : ℕ) → 0 < v → v < 10 ^ w → readField (padded w v) ≡ Value v
@@ -276,9 +276,9 @@ reads-blank : (b v : ℕ) (bs : List ℕ) → b ≡ blank → readField bs ≡ V
 unfolding readField
 reads-blank b v [] s e r = let z : _≡_ {A = ℕ} 0 1 = cc in absurd (omega arith)
 reads-blank b v (x ∷ bs) s e r = record {
-    bytes = fieldBytes-wider (length bs) v (r .narrow) ∙ rw (r .bytes, s);
-    narrow = let t = ten (suc (length bs)) in omega (arith, r .narrow);
-  }
+  bytes = fieldBytes-wider (length bs) v (r .narrow) ∙ rw (r .bytes, s);
+  narrow = let t = ten (suc (length bs)) in omega (arith, r .narrow);
+}
 
 readField-reads : (l : List ℕ) (v : ℕ) → readField l ≡ Value v → Reads l v
 unfolding readField
@@ -326,13 +326,13 @@ readFields-fieldsBytes (w ∷ ws) (v ∷ vs) p r at h n =
     let q : List ℕ = fieldsBytes ws vs ++ r in
     let a : (fieldBytes w v ++ fieldsBytes ws vs) ++ r ≡ fieldBytes w v ++ q = append-assoc (fieldBytes w v) (fieldsBytes ws vs) r in
     let here : readField (take w (drop at (p ++ (fieldBytes w v ++ q)))) ≡ Value v =
-        rw (drop-at p (fieldBytes w v ++ q) at h, take-at (fieldBytes w v) q w (length-fieldBytes w v))
-        (readField-fieldBytes w v (n .0) (n .1)) in
+    rw (drop-at p (fieldBytes w v ++ q) at h, take-at (fieldBytes w v) q w (length-fieldBytes w v))
+    (readField-fieldBytes w v (n .0) (n .1)) in
     let after : readFields ws (at + w) (p ++ (fieldBytes w v ++ q)) ≡ Values vs =
-        subst (λ (l : List ℕ). readFields ws (at + w) l ≡ Values vs) (append-assoc p (fieldBytes w v) q)
-        (readFields-fieldsBytes ws vs (p ++ fieldBytes w v) r (at + w)
-        (length-append p (fieldBytes w v) ∙ omega (arith, length-fieldBytes w v))
-        (n .2)) in
+    subst (λ (l : List ℕ). readFields ws (at + w) l ≡ Values vs) (append-assoc p (fieldBytes w v) q)
+    (readFields-fieldsBytes ws vs (p ++ fieldBytes w v) r (at + w)
+    (length-append p (fieldBytes w v) ∙ omega (arith, length-fieldBytes w v))
+    (n .2)) in
     rw (a, here, after)
 
 record Joined (a : FieldAnswer) (f : Fields) (vs : List ℕ) : Type 0 where
@@ -358,9 +358,8 @@ fieldsBytes-readFields (w ∷ ws) at l vs h e =
     let i = fieldsBytes-readFields ws (at + w) l (j .rest) (omega arith) (j .after) in
     let n : length (take w (drop at l)) ≡ w = length-take-le w (drop at l) (simp length-drop (omega arith)) in
     let b : fieldBytes w (j .value) ≡ take w (drop at l) =
-        subst (λ (k : ℕ). fieldBytes k (j .value) ≡ take w (drop at l)) n
-        (fieldBytes-readField (take w (drop at l)) (j .value) (j .here)) in
-    (
+    subst (λ (k : ℕ). fieldBytes k (j .value) ≡ take w (drop at l)) n
+    (fieldBytes-readField (take w (drop at l)) (j .value) (j .here)) in (
       ap length (sym (j .whole)) ∙ ap suc (i .0),
       rw (← j .whole, b, i .1, take-add w (total ws) (drop at l), drop-drop w at l),
     )
@@ -415,8 +414,7 @@ table-narrow = refl
 pub narrow-fields : (e : Event) → Limited e → Narrow widths (fieldsOf e)
 narrow-fields e m =
     let f = m .fits in
-    allNarrow-narrow widths (fieldsOf e) (largest (m .limits)) refl
-    (
+    allNarrow-narrow widths (fieldsOf e) (largest (m .limits)) refl (
       m .kind .to,
       (
         range-facts (e .date) (m .date) .to,

@@ -7,14 +7,11 @@ use Rattle.events.specs.Line.{lineLength, fieldBytes}
 use lib.Dec.{lit≤}
 use native.Mathlib.Omega.{arith}
 use Prim.Native.Nat.{ℕ, _≤_}
-use mathlib.Core.List.{List, [], _∷_, _++_, append-assoc, append-nil}
-use mathlib.Core.Path.{_≡_, sym, ap, _∙_}
+use mathlib.Core.List.{List, [], _++_}
+use mathlib.Core.Path.{_≡_, _∙_}
 use borrow.Author.Needs.{needs}
 use Rattle.events.proofs.line.put_line.Statement.{statement}
 use Rattle.events.proofs.line.put_line.Tie as tie
-use Rattle.events.proofs.line.put_line.Reads as reads
-use Rattle.events.proofs.line.put_line.Lts as lts
-use Rattle.events.proofs.line.put.Reads as put-reads
 
 abbrev start1 : tie.After-put → tie.Start
 start1 c = c .before .before .before
@@ -97,7 +94,6 @@ bytes9 c = bytes8 (c .before .before .before .before) ++ fieldBytes 2 (start9 c 
 front9 : (c : tie.After-put9) → Front (bytes9 c) 74 (start9 c .args .out .now) (c .put9 .last .0)
 front9 c = front-field (bytes8 (c .before .before .before .before)) _ _ _ 72 2 _ (front8 (c .before .before .before .before)) (c .put9 .ensures)
 
--- src/line.rt:206:5
 -- the buffer keeps its length, and so its room
 same8 : (c : tie.After-put8) → length (c .put8 .last .0) ≡ length (start8 c .args .out .now)
 same8 c = front-length (bytes8 c) _ _ 72 (front8 c) (le-trans (lit≤ tt) (start8 c .pre))
@@ -111,47 +107,36 @@ room e h l = omega arith
 put-requires : tie.Need-put-requires
 put-requires c κs = search needs
 
--- src/line.rt:207:5
 put-requires-2 : tie.Need-put-requires-2
 put-requires-2 c κs = search needs
 
--- src/line.rt:208:5
 put-requires-3 : tie.Need-put-requires-3
 put-requires-3 c κs = search needs
 
--- src/line.rt:209:5
 put-requires-4 : tie.Need-put-requires-4
 put-requires-4 c κs = search needs
 
--- src/line.rt:210:5
 put-requires-5 : tie.Need-put-requires-5
 put-requires-5 c κs = search needs
 
--- src/line.rt:211:5
 put-requires-6 : tie.Need-put-requires-6
 put-requires-6 c κs = search needs
 
--- src/line.rt:212:5
 put-requires-7 : tie.Need-put-requires-7
 put-requires-7 c κs = search needs
 
--- src/line.rt:213:5
 put-requires-8 : tie.Need-put-requires-8
 put-requires-8 c κs = search needs
 
--- src/line.rt:214:5
 put-requires-9 : tie.Need-put-requires-9
 put-requires-9 c κs = (lit≤ tt, room (same8 (c .before .before .before)) (start8 (c .before .before .before) .pre) (lit≤ tt))
 
--- src/line.rt:215:5
 slice-write-out : tie.Need-slice-write-out
 slice-write-out c = room (same9 (c .before .before)) (start9 (c .before .before) .pre) (lit≤ tt)
 
--- src/line.rt:202:1
 same-length : tie.Need-same-length
 same-length c = length-set (c .before .before .put9 .last .0) 74 10 ∙ same9 (c .before .before)
 
--- src/line.rt:202:1
 returns : tie.Need-returns
 returns c =
     let s = start9 (c .before .before) in
