@@ -5,15 +5,15 @@ use mathlib.Core.Path.{_≡_, refl, sym, _∙_, ap, subst}
 use mathlib.Core.Bool.{Bool, true, false, cond, _&&_}
 use mathlib.Core.List.{List, [], _∷_}
 use mathlib.Core.Logic.{_⊎_, inl, inr, ⊎-elim}
-use Prim.Native.Nat.{ℕ, zero, suc, _+_, _^_, _≤_, _<_}
+use Prim.Native.Nat.{ℕ, zero, suc, _+_, _≤_, _<_}
 use native.Mathlib.Omega.{arith}
-use lib.Dec.{leb, ltb, eqb, lit≤, lit<}
+use lib.Dec.{leb, eqb}
 use lib.ListN.{length, drop, getD, drop-of-length-le}
 use lib.Seq.{drop-cons}
 use native.Mathlib.Nat.{le-antisymm, eq-or-lt-of-le}
 use native.Mathlib.Numerals.{add-one}
-use borrow.Author.Tests.{leb-true, le-leb, ltb-true, eqb-true}
-use Rattle.common.proofs.Tests.{never, and-halves, and-true, true-or-false, allOf-at}
+use borrow.Author.Tests.{leb-true, le-leb, eqb-true}
+use Rattle.common.proofs.Tests.{never, and-halves, and-true}
 use Rattle.calendar.specs.Gregorian.{inRange, lastDate}
 use Rattle.calendar.proofs.Laws.Gregorian.{range-facts}
 use Rattle.refusals.specs.declared.Refusal.{Refusal}
@@ -27,7 +27,7 @@ use Rattle.events.specs.declared.limits.RowAnswer.{RowAnswer}
 use Rattle.events.specs.declared.limits.RowAnswer.the-variants.{Found, NoRow}
 use Rattle.events.specs.declared.limits.Checked.{Checked}
 use Rattle.events.specs.declared.limits.Checked.the-variants.{Within, Refused}
-use Rattle.events.specs.Limits.{within, table, noRow, row, rowIn, rowOf, secondFits, rowFits, answerFits, fieldsFit, checks, checked, kinds, unnamed, creditor, debtor, bank, number, cents, rate, mandateCodes, sequenceCodes, refundCodes, lastKind, only}
+use Rattle.events.specs.Limits.{within, table, noRow, row, rowIn, rowOf, secondFits, rowFits, answerFits, fieldsFit, checked, kinds, unnamed, creditor, debtor, bank, number, cents, rate, mandateCodes, sequenceCodes, refundCodes, lastKind, only}
 
 -- ---- ranges
 
@@ -211,7 +211,6 @@ checked-facts e t =
 
 -- ---- the facts of each kind
 
-
 cond-one : (b : Bool) (r s : Row) → cond b (Found r) NoRow ≡ Found s → (b ≡ true) × (r ≡ s)
 cond-one true r s e = (refl, cc)
 cond-one false r s e = let z : _≡_ {A = ℕ} 0 1 = cc in absurd (omega arith)
@@ -281,12 +280,12 @@ unfolding rowOf table
 amend-facts e m h =
     ⊎-elim
     (λ p.
-      let b = within-between _ _ (p .0) in
-      let f = subst (λ (s : Row). Fits s e) (sym (p .1)) (m .fits) in
-      inl (le-antisymm (b .to) (b .from), record { mandate = f .mandate; bank = f .c }))
+    let b = within-between _ _ (p .0) in
+    let f = subst (λ (s : Row). Fits s e) (sym (p .1)) (m .fits) in
+    inl (le-antisymm (b .to) (b .from), record { mandate = f .mandate; bank = f .c }))
     (λ t.
-      let o = of-one e _ m t in
-      inr (le-antisymm (o .code .to) (o .code .from), record { mandate = o .fits .mandate; creditor = o .fits .a }))
+    let o = of-one e _ m t in
+    inr (le-antisymm (o .code .to) (o .code .from), record { mandate = o .fits .mandate; creditor = o .fits .a }))
     (cond-found (within (only 0) (e .code)) _ (m .limits) _ (rw h at (m .found)))
 
 pub record CancelFields (e : Event) : Type 0 where

@@ -4,25 +4,29 @@
 use mathlib.Core.Path.{_≡_, refl, sym, _∙_, ap, subst}
 use mathlib.Core.Bool.{Bool, true, false, cond, _&&_}
 use mathlib.Core.List.{List, [], _∷_, _++_, append-assoc, append-nil}
-use mathlib.Core.Logic.{_⊎_, inl, inr, ⊎-elim}
-use Prim.Native.Nat.{ℕ, zero, suc, _+_, _-_, _*_, _/_, _%_, _^_, _≤_, _<_}
-use native.Mathlib.Nat.{pow-succ', one-le-pow, eq-zero-or-pos, eq-or-lt-of-le, add-zero, add-suc, suc-add, lt-of-lt-of-le, pow-le-pow-right}
+use mathlib.Core.Logic.{_⊎_, ⊎-elim}
+use Prim.Native.Nat.{ℕ, zero, suc, _+_, _-_, _*_, _/_, _^_, _≤_, _<_}
+use native.Mathlib.Nat.{pow-succ', one-le-pow, eq-zero-or-pos, eq-or-lt-of-le, add-zero, lt-of-lt-of-le, pow-le-pow-right}
 use native.Mathlib.Numerals.{add-one}
 use native.Mathlib.Omega.{arith}
-use lib.Dec.{leb, ltb, eqb, lit≤, lit<}
-use lib.ListN.{length, take, drop, getD, set, replicate, length-append, length-take, length-drop, take-append-drop, length-set, drop-of-length-le}
-use lib.Seq.{drop-cons, take-at, drop-at, take-set-le, lt-length-set, getD-set-same, drop-set-lt, drop-drop, take-add, length-take-le}
+use lib.Dec.{leb, ltb, eqb, lit<}
+use lib.ListN.{length, take, drop, getD, set, length-append, length-drop, take-append-drop, drop-of-length-le}
+use lib.Seq.{drop-cons, take-at, drop-at, set-at, take-set-le, lt-length-set, getD-set-same, drop-set-lt, drop-drop, take-add, length-take-le}
 use borrow.Author.Tests.{leb-true, le-leb, lt-leb, ltb-true, ltb-false, lt-ltb, le-ltb, eqb-true, eqb-false, eq-eqb, ne-eqb}
 use Rattle.common.proofs.Tests.{never, and-halves, and-true, true-or-false, false-unless}
 use Rattle.calendar.specs.Gregorian.{lastDate}
 use Rattle.calendar.proofs.Laws.Gregorian.{range-facts}
 use Rattle.events.specs.declared.Event.{Event}
 use Rattle.events.specs.declared.limits.Row.{Row}
+use Rattle.refusals.specs.declared.Refusal.{Refusal}
+use Rattle.refusals.specs.declared.Refusal.the-variants.{BadLine, UnfitMemory}
+use Rattle.events.specs.declared.line.LineAnswer.the-variants as lines
+use Rattle.events.specs.declared.line.WriteAnswer.the-variants as writes
 use Rattle.events.specs.declared.line.FieldAnswer.{FieldAnswer}
 use Rattle.events.specs.declared.line.FieldAnswer.the-variants.{Value, NoValue}
 use Rattle.events.proofs.Laws.Limits.{Limited, everyRow, rowOf-every, rowOf-codes, second-le}
-use Rattle.events.specs.Limits.{table, lastKind}
-use Rattle.events.specs.Line.{widths, fieldsOf, eventOf, blank, zeroDigit, lastDigit, padded, fieldBytes, fieldsBytes, isDigit, readDigits, readNumber, readField, Fields, Values, Unreadable, joined, readFields}
+use Rattle.events.specs.Limits.{table, lastKind, checked}
+use Rattle.events.specs.Line.{widths, columns, lineLength, lineEnd, lineOf, taken, readLine, writtenOf, writeAnswer, bytesAfter, fieldsOf, eventOf, pasted, blank, zeroDigit, lastDigit, padded, fieldBytes, fieldsBytes, isDigit, readDigits, readNumber, readField, Fields, Values, Unreadable, joined, readFields}
 
 -- ---- powers of ten
 
@@ -187,7 +191,7 @@ readField-more : (v d : ℕ) (l : List ℕ)
     → readField (l ++ (d ∷ [])) ≡ Value (v * 10 + (d - zeroDigit))
 unfolding readField
 readField-more v d [] h g e = let z : _≡_ {A = ℕ} 0 1 = cc in absurd (omega arith)
-readField-more v d (b ∷ bs) h g e = 
+readField-more v d (b ∷ bs) h g e =
     ⊎-elim (λ t. rw t (readField-more v d bs h g (rw t at e)))
     (λ t. rw t (readNumber-more v d (b ∷ bs) h g (rw t at e)))
     (true-or-false (eqb b blank))
@@ -210,13 +214,13 @@ module _ (w : ℕ) (above : (q : ℕ) → 0 < q → q < 10 ^ w → readField (pa
   readField-last v h =
       ⊎-elim
       (λ z.
-        ap (λ (q : ℕ). readField (padded w q ++ (lastDigit v ∷ []))) z
-        ∙ readField-blanks w (lastDigit v ∷ [])
-        ∙ readField-digit (lastDigit v) (lastDigit-is-digit v)
-        ∙ ap Value (omega arith))
+      ap (λ (q : ℕ). readField (padded w q ++ (lastDigit v ∷ []))) z
+      ∙ readField-blanks w (lastDigit v ∷ [])
+      ∙ readField-digit (lastDigit v) (lastDigit-is-digit v)
+      ∙ ap Value (omega arith))
       (λ p.
-        readField-more (v / 10) (lastDigit v) (padded w (v / 10)) p (lastDigit-is-digit v) (above (v / 10) p (div-narrow w v h))
-        ∙ ap Value (omega arith))
+      readField-more (v / 10) (lastDigit v) (padded w (v / 10)) p (lastDigit-is-digit v) (above (v / 10) p (div-narrow w v h))
+      ∙ ap Value (omega arith))
       (eq-zero-or-pos (v / 10))
 
 readField-padded : (w v : ℕ) → 0 < v → v < 10 ^ w → readField (padded w v) ≡ Value v
@@ -272,9 +276,9 @@ reads-blank : (b v : ℕ) (bs : List ℕ) → b ≡ blank → readField bs ≡ V
 unfolding readField
 reads-blank b v [] s e r = let z : _≡_ {A = ℕ} 0 1 = cc in absurd (omega arith)
 reads-blank b v (x ∷ bs) s e r = record {
-    bytes = fieldBytes-wider (length bs) v (r .narrow) ∙ rw (r .bytes, s);
-    narrow = let t = ten (suc (length bs)) in omega (arith, r .narrow);
-  }
+  bytes = fieldBytes-wider (length bs) v (r .narrow) ∙ rw (r .bytes, s);
+  narrow = let t = ten (suc (length bs)) in omega (arith, r .narrow);
+}
 
 readField-reads : (l : List ℕ) (v : ℕ) → readField l ≡ Value v → Reads l v
 unfolding readField
@@ -322,13 +326,13 @@ readFields-fieldsBytes (w ∷ ws) (v ∷ vs) p r at h n =
     let q : List ℕ = fieldsBytes ws vs ++ r in
     let a : (fieldBytes w v ++ fieldsBytes ws vs) ++ r ≡ fieldBytes w v ++ q = append-assoc (fieldBytes w v) (fieldsBytes ws vs) r in
     let here : readField (take w (drop at (p ++ (fieldBytes w v ++ q)))) ≡ Value v =
-        rw (drop-at p (fieldBytes w v ++ q) at h, take-at (fieldBytes w v) q w (length-fieldBytes w v))
-        (readField-fieldBytes w v (n .0) (n .1)) in
+    rw (drop-at p (fieldBytes w v ++ q) at h, take-at (fieldBytes w v) q w (length-fieldBytes w v))
+    (readField-fieldBytes w v (n .0) (n .1)) in
     let after : readFields ws (at + w) (p ++ (fieldBytes w v ++ q)) ≡ Values vs =
-        subst (λ (l : List ℕ). readFields ws (at + w) l ≡ Values vs) (append-assoc p (fieldBytes w v) q)
-        (readFields-fieldsBytes ws vs (p ++ fieldBytes w v) r (at + w)
-        (length-append p (fieldBytes w v) ∙ omega (arith, length-fieldBytes w v))
-        (n .2)) in
+    subst (λ (l : List ℕ). readFields ws (at + w) l ≡ Values vs) (append-assoc p (fieldBytes w v) q)
+    (readFields-fieldsBytes ws vs (p ++ fieldBytes w v) r (at + w)
+    (length-append p (fieldBytes w v) ∙ omega (arith, length-fieldBytes w v))
+    (n .2)) in
     rw (a, here, after)
 
 record Joined (a : FieldAnswer) (f : Fields) (vs : List ℕ) : Type 0 where
@@ -354,9 +358,8 @@ fieldsBytes-readFields (w ∷ ws) at l vs h e =
     let i = fieldsBytes-readFields ws (at + w) l (j .rest) (omega arith) (j .after) in
     let n : length (take w (drop at l)) ≡ w = length-take-le w (drop at l) (simp length-drop (omega arith)) in
     let b : fieldBytes w (j .value) ≡ take w (drop at l) =
-        subst (λ (k : ℕ). fieldBytes k (j .value) ≡ take w (drop at l)) n
-        (fieldBytes-readField (take w (drop at l)) (j .value) (j .here)) in
-    (
+    subst (λ (k : ℕ). fieldBytes k (j .value) ≡ take w (drop at l)) n
+    (fieldBytes-readField (take w (drop at l)) (j .value) (j .here)) in (
       ap length (sym (j .whole)) ∙ ap suc (i .0),
       rw (← j .whole, b, i .1, take-add w (total ws) (drop at l), drop-drop w at l),
     )
@@ -411,8 +414,7 @@ table-narrow = refl
 pub narrow-fields : (e : Event) → Limited e → Narrow widths (fieldsOf e)
 narrow-fields e m =
     let f = m .fits in
-    allNarrow-narrow widths (fieldsOf e) (largest (m .limits)) refl
-    (
+    allNarrow-narrow widths (fieldsOf e) (largest (m .limits)) refl (
       m .kind .to,
       (
         range-facts (e .date) (m .date) .to,
@@ -554,6 +556,133 @@ pub still-store : (at i b : ℕ) (s out : List ℕ)
 still-store at i b s out l h =
     rw (take-set-le at out i b l, drop-cons (set out i b) i 0 (lt-length-set out i b h), getD-set-same out i b 0 h, drop-set-lt (suc i) out i b (omega arith), add-one, append-assoc)
 
--- nothing is to come
-pub still-none : (at : ℕ) (out : List ℕ) → still at at [] out ≡ out
-still-none at out = take-append-drop at out
+-- at the field's left edge nothing is to come
+pub still-none : (at i v : ℕ) (out : List ℕ) → i ≡ at → still at i (padded (i - at) v) out ≡ out
+unfolding padded
+still-none at i v out e =
+    let z : i - at ≡ 0 = omega arith in
+    ap (λ (k : ℕ). take at out ++ (padded k v ++ drop i out)) z
+    ∙ ap (λ (k : ℕ). take at out ++ drop k out) e
+    ∙ take-append-drop at out
+
+-- the field from a place at up to j is still to come; the byte before j is stored
+module _ (at j : ℕ) (out : List ℕ) (l : at < j) (h : j ≤ length out) where
+  before : j - 1 + 1 ≡ j
+  before = omega arith
+
+  left : j - at ≡ suc (j - 1 - at)
+  left = omega arith
+
+  store : (b : ℕ) (s : List ℕ) → still at (j - 1) s (set out (j - 1) b) ≡ still at j (s ++ (b ∷ [])) out
+  store b s =
+      still-store at (j - 1) b s out (omega arith) (omega arith)
+      ∙ ap (λ (k : ℕ). still at k (s ++ (b ∷ [])) out) before
+
+  padded-last : (v : ℕ) → padded (j - at) v ≡ padded (j - 1 - at) (v / 10) ++ (cond (eqb v 0) blank (lastDigit v) ∷ [])
+  unfolding padded
+  padded-last v = ap (λ (w : ℕ). padded w v) left
+
+  -- a blank, where no digit is left
+  pub still-blank : (v : ℕ)
+      → v ≡ 0
+      → still at (j - 1) (padded (j - 1 - at) v) (set out (j - 1) blank) ≡ still at j (padded (j - at) v) out
+  still-blank v e =
+      let q : v / 10 ≡ v = omega arith in
+      let p : padded (j - at) v ≡ padded (j - 1 - at) v ++ (blank ∷ []) = padded-last v ∙ rw (q, eq-eqb v 0 e) in
+      store blank (padded (j - 1 - at) v) ∙ ap (λ (s : List ℕ). still at j s out) (sym p)
+
+  -- a digit, where one is left
+  pub still-digit : (v b : ℕ)
+      → (v ≡ 0 → ⊥)
+      → b ≡ lastDigit v
+      → still at (j - 1) (padded (j - 1 - at) (v / 10)) (set out (j - 1) b) ≡ still at j (padded (j - at) v) out
+  still-digit v b n e =
+      let p : padded (j - at) v ≡ padded (j - 1 - at) (v / 10) ++ (b ∷ []) = padded-last v ∙ rw (ne-eqb v 0 n, e) in
+      store b (padded (j - 1 - at) (v / 10)) ∙ ap (λ (s : List ℕ). still at j s out) (sym p)
+
+  -- the last digit, which every field has
+  pub still-last : (v w b : ℕ)
+      → at + w ≡ j
+      → b ≡ lastDigit v
+      → still at (j - 1) (padded (j - 1 - at) (v / 10)) (set out (j - 1) b) ≡ pasted at (fieldBytes w v) out
+  unfolding fieldBytes
+  still-last v w b e d =
+      let k : w ≡ suc (j - 1 - at) = omega arith in
+      let n : j ≡ at + length (fieldBytes w v) = omega (arith, length-fieldBytes w v) in
+      store b (padded (j - 1 - at) (v / 10))
+      ∙ ap (λ (x : ℕ). still at j (padded (j - 1 - at) (v / 10) ++ (x ∷ [])) out) d
+      ∙ ap (λ (m : ℕ). still at j (fieldBytes m v) out) (sym k)
+      ∙ ap (λ (m : ℕ). take at out ++ (fieldBytes w v ++ drop m out)) n
+
+-- ---- a line written field by field
+
+-- the bytes s stand at the front of the buffer, n of them, and behind them what stood there
+pub record Front (s : List ℕ) (n : ℕ) (out now : List ℕ) : Type 0 where
+  pub long : length s ≡ n
+  pub bytes : now ≡ s ++ drop n out
+
+pub front-none : (out : List ℕ) → Front [] 0 out out
+front-none out = record { long = refl; bytes = refl }
+
+-- a field written behind them
+pub front-field : (s out now next : List ℕ) (n w v : ℕ)
+    → Front s n out now
+    → next ≡ pasted n (fieldBytes w v) now
+    → Front (s ++ fieldBytes w v) (n + w) out next
+front-field s out now next n w v f p =
+    let e = length-fieldBytes w v in
+    let a : take n now ≡ s = ap (take n) (f .bytes) ∙ take-at s (drop n out) n (f .long) in
+    let b : drop n now ≡ drop n out = ap (drop n) (f .bytes) ∙ drop-at s (drop n out) n (f .long) in
+    let c : drop (n + w) now ≡ drop (n + w) out = sym (drop-drop w n now) ∙ ap (drop w) b ∙ drop-drop w n out in
+    record {
+      long = length-append s (fieldBytes w v) ∙ omega (arith, f .long);
+      bytes = p ∙ rw (e, a, c, append-assoc);
+    }
+
+pub front-length : (s out now : List ℕ) (n : ℕ) → Front s n out now → n ≤ length out → length now ≡ length out
+front-length s out now n f h = ap length (f .bytes) ∙ length-append s (drop n out) ∙ omega (arith, f .long, length-drop n out)
+
+-- the byte that ends the line
+pub front-end : (s out now : List ℕ) (n b : ℕ) → Front s n out now → n < length out → set now n b ≡ s ++ (b ∷ drop (n + 1) out)
+front-end s out now n b f h =
+    let d : now ≡ s ++ (getD out n 0 ∷ drop (n + 1) out) = f .bytes ∙ rw (add-one, drop-cons out n 0 h) in
+    ap (λ (l : List ℕ). set l n b) d ∙ set-at s (getD out n 0) (drop (n + 1) out) b n (f .long)
+
+-- the nine fields and the byte that ends them are the line
+pub lineOf-front : (e : Event) (r : List ℕ)
+    → (((((((fieldBytes 2 (e .kind) ++ fieldBytes 9 (e .date)) ++ fieldBytes 10 (e .mandate)) ++ fieldBytes 10 (e .a)) ++ fieldBytes 10 (e .b)) ++ fieldBytes 10 (e .c)) ++ fieldBytes 12 (e .amount)) ++ fieldBytes 9 (e .second)) ++ fieldBytes 2 (e .code) ++ (lineEnd ∷ r)
+    ≡ lineOf e ++ r
+unfolding lineOf
+lineOf-front e r = simp (append-assoc, append-nil)
+
+-- ---- readLine, writeAnswer, bytesAfter
+
+module _ (l : List ℕ) where
+  pub readLine-length : (length l ≡ lineLength → ⊥) → readLine l ≡ lines.Refused BadLine
+  unfolding readLine
+  readLine-length n = rw (ne-eqb (length l) lineLength n)
+
+  pub readLine-end : length l ≡ lineLength → (getD l columns 0 ≡ lineEnd → ⊥) → readLine l ≡ lines.Refused BadLine
+  unfolding readLine
+  readLine-end e n = rw (eq-eqb (length l) lineLength e, ne-eqb (getD l columns 0) lineEnd n)
+
+  pub readLine-fields : length l ≡ lineLength → getD l columns 0 ≡ lineEnd → readLine l ≡ taken (readFields widths 0 l)
+  unfolding readLine
+  readLine-fields e g = rw (eq-eqb (length l) lineLength e, eq-eqb (getD l columns 0) lineEnd g)
+
+module _ (e : Event) (out : List ℕ) where
+  pub writeAnswer-short : length out < lineLength → writeAnswer e out ≡ writes.Refused UnfitMemory
+  unfolding writeAnswer
+  writeAnswer-short h = rw (lt-leb lineLength (length out) h)
+
+  pub writeAnswer-checked : lineLength ≤ length out → writeAnswer e out ≡ writtenOf (checked e)
+  unfolding writeAnswer checked
+  writeAnswer-checked h = rw (le-leb lineLength (length out) h)
+
+  pub bytesAfter-refused : (r : Refusal) → writeAnswer e out ≡ writes.Refused r → bytesAfter e out ≡ out
+  unfolding bytesAfter
+  bytesAfter-refused r p = rw p
+
+  pub bytesAfter-written : writeAnswer e out ≡ writes.Written → bytesAfter e out ≡ lineOf e ++ drop lineLength out
+  unfolding bytesAfter
+  bytesAfter-written p = rw p

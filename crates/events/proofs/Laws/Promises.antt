@@ -1,25 +1,23 @@
 -- The promises of specs/Promises, proved: each theorem has the name of its statement. Assumes nothing.
-use mathlib.Core.Path.{_≡_, refl, sym, _∙_, ap, subst}
+use mathlib.Core.Path.{_≡_, refl, sym, _∙_, ap}
 use mathlib.Core.Bool.{Bool, true, false, cond, _&&_}
-use mathlib.Core.List.{List, [], _∷_, _++_, append-nil}
+use mathlib.Core.List.{List, [], _∷_, _++_}
 use Prim.Native.Nat.{ℕ, suc, _+_, _≤_}
 use native.Mathlib.Omega.{arith}
-use lib.Dec.{leb, eqb}
-use lib.ListN.{length, take, drop, getD, length-append, length-drop, take-append-drop, drop-of-length-le}
+use lib.Dec.{eqb}
+use lib.ListN.{length, take, drop, getD, length-append, take-append-drop, drop-of-length-le}
 use lib.Seq.{drop-cons, take-at, getD-at}
-use borrow.Author.Tests.{leb-true, le-leb, eqb-true, eq-eqb}
+use borrow.Author.Tests.{le-leb, eqb-true, eq-eqb}
 use Rattle.common.proofs.Tests.{and-halves, and-true}
-use Rattle.refusals.specs.declared.Refusal.{Refusal}
-use Rattle.refusals.specs.declared.Refusal.the-variants.{BadLine, UnfitMemory}
+use Rattle.refusals.specs.declared.Refusal.the-variants.{BadLine}
 use Rattle.events.specs.declared.Event.{Event}
 use Rattle.events.specs.declared.limits.Checked.{Checked}
 use Rattle.events.specs.declared.limits.Checked.the-variants.{Within, Refused}
 use Rattle.events.specs.declared.line.LineAnswer.{LineAnswer}
 use Rattle.events.specs.declared.line.LineAnswer.the-variants as lines
-use Rattle.events.specs.declared.line.WriteAnswer.{WriteAnswer}
 use Rattle.events.specs.declared.line.WriteAnswer.the-variants as writes
 use Rattle.events.specs.Limits.{checked}
-use Rattle.events.specs.Line.{widths, fieldsOf, eventOf, columns, lineLength, lineEnd, fieldsBytes, lineOf, Fields, Values, Unreadable, readFields, answerOf, taken, readLine, writtenOf, writeAnswer, bytesBy, bytesAfter}
+use Rattle.events.specs.Line.{widths, fieldsOf, eventOf, columns, lineLength, lineEnd, fieldsBytes, lineOf, Fields, Values, Unreadable, readFields, answerOf, taken, readLine, writeAnswer, bytesAfter}
 use Rattle.events.specs.Promises.{LineHasItsLength, ReadsWhatWasWritten, WritesWhatWasRead, OnlyWithinIsTaken, EveryEventHasALine, NoEventHasTwoLines, NoLineHasTwoEvents}
 use Rattle.events.proofs.Laws.Limits.{checked-facts}
 use Rattle.events.proofs.Laws.Line.{length-fieldsBytes, readFields-fieldsBytes, fieldsBytes-readFields, narrow-fields, fieldsOf-eventOf}
@@ -38,7 +36,7 @@ every-event-has-a-line e h =
     let n : length l ≡ lineLength = line-has-its-length e in
     let g : getD l columns 0 ≡ lineEnd = getD-at (fieldsBytes widths (fieldsOf e)) lineEnd [] 0 columns (length-columns e) in
     let f : readFields widths 0 l ≡ Values (fieldsOf e) =
-        readFields-fieldsBytes widths (fieldsOf e) [] (lineEnd ∷ []) 0 refl (narrow-fields e (checked-facts e h)) in
+    readFields-fieldsBytes widths (fieldsOf e) [] (lineEnd ∷ []) 0 refl (narrow-fields e (checked-facts e h)) in
     rw (and-true (eq-eqb (length l) lineLength n) (eq-eqb (getD l columns 0) lineEnd g), f, h)
 
 -- what a line that was taken is
@@ -95,8 +93,8 @@ no-event-has-two-lines l e t =
     let w = fieldsBytes-readFields widths 0 l (r .values) (omega (arith, r .long)) (r .fields) in
     let f : fieldsOf e ≡ r .values = ap fieldsOf (sym (r .event)) ∙ fieldsOf-eventOf (r .values) (w .0) in
     let d : drop columns l ≡ lineEnd ∷ [] =
-        drop-cons l columns 0 (omega (arith, r .long))
-        ∙ rw (r .ended, drop-of-length-le l {i = suc columns} (omega (arith, r .long))) in
+    drop-cons l columns 0 (omega (arith, r .long))
+    ∙ rw (r .ended, drop-of-length-le l {i = suc columns} (omega (arith, r .long))) in
     sym (take-append-drop columns l)
     ∙ ap (λ (s : List ℕ). take columns l ++ s) d
     ∙ ap (λ (s : List ℕ). s ++ (lineEnd ∷ [])) (sym (w .1) ∙ ap (fieldsBytes widths) (sym f))

@@ -3,15 +3,9 @@
 use Rattle.events.proofs.Laws.Limits.{checked-kind, checked-date, checked-field, checked-within}
 use mathlib.Core.Path.{sym, _∙_}
 use Rattle.common.proofs.Tests.{not-true, not-false}
-use Rattle.events.specs.Limits.{checked}
 use borrow.Author.Needs.{needs}
 use Rattle.events.proofs.limits.check.Statement.{statement}
 use Rattle.events.proofs.limits.check.Tie as tie
-use Rattle.events.proofs.limits.check.Reads as reads
-use Rattle.events.proofs.limits.check.Lts as lts
-use Rattle.calendar.proofs.gregorian.in_range.Reads as in-range-reads
-use Rattle.events.proofs.limits.fields_fit.Reads as fields-fit-reads
-use Rattle.events.proofs.limits.within.Reads as within-reads
 
 within-requires : tie.Need-within-requires
 within-requires c κs = search needs

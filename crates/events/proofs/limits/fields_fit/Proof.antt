@@ -1,13 +1,9 @@
 -- `fields_fit` looks up the row of the kind and code, and tests the fields by it.
 -- Assumes nothing.
-use Rattle.events.specs.Limits.{fieldsFit, answerFits}
+use Rattle.events.specs.Limits.{fieldsFit}
 use borrow.Author.Needs.{needs}
 use Rattle.events.proofs.limits.fields_fit.Statement.{statement}
 use Rattle.events.proofs.limits.fields_fit.Tie as tie
-use Rattle.events.proofs.limits.fields_fit.Reads as reads
-use Rattle.events.proofs.limits.fields_fit.Lts as lts
-use Rattle.events.proofs.limits.row_fits.Reads as row-fits-reads
-use Rattle.events.proofs.limits.row_of.Reads as row-of-reads
 
 row-of-requires : tie.Need-row-of-requires
 row-of-requires c κs = search needs

@@ -4,8 +4,6 @@ use Rattle.events.specs.Limits.{table}
 use borrow.Author.Needs.{needs}
 use Rattle.events.proofs.limits.row_at.Statement.{statement}
 use Rattle.events.proofs.limits.row_at.Tie as tie
-use Rattle.events.proofs.limits.row_at.Reads as reads
-use Rattle.events.proofs.limits.row_at.Lts as lts
 
 mul-result : tie.Need-mul-result
 unfolding table

@@ -2,10 +2,6 @@ use Rattle.events.specs.Limits.{rowFits}
 use borrow.Author.Needs.{needs}
 use Rattle.events.proofs.limits.row_fits.Statement.{statement}
 use Rattle.events.proofs.limits.row_fits.Tie as tie
-use Rattle.events.proofs.limits.row_fits.Reads as reads
-use Rattle.events.proofs.limits.row_fits.Lts as lts
-use Rattle.events.proofs.limits.second_fits.Reads as second-fits-reads
-use Rattle.events.proofs.limits.within.Reads as within-reads
 
 within-requires : tie.Need-within-requires
 within-requires c κs = search needs

@@ -2,19 +2,13 @@
 -- Assumes nothing.
 use Rattle.events.proofs.Laws.Limits.{rowIn-hit, rowIn-miss, rowIn-none}
 use mathlib.Core.Path.{refl}
-use lib.Dec.{lit≤}
 use borrow.Author.Needs.{needs}
 use lib.ListN.{length, drop}
 use mathlib.Core.Path.{_≡_, sym, _∙_}
-use native.Mathlib.Omega.{arith}
 use Prim.Native.Nat.{_≤_, _-_}
-use Rattle.events.specs.Limits.{table, noRow, rowIn, rowOf}
+use Rattle.events.specs.Limits.{table, rowIn, rowOf}
 use Rattle.events.proofs.limits.row_of.Statement.{statement}
 use Rattle.events.proofs.limits.row_of.Tie as tie
-use Rattle.events.proofs.limits.row_of.Reads as reads
-use Rattle.events.proofs.limits.row_of.Lts as lts
-use Rattle.events.proofs.limits.row_at.Reads as row-at-reads
-use Rattle.events.proofs.limits.within.Reads as within-reads
 
 abbrev Inv-loop : tie.InvT-loop
 Inv-loop kind code i₀ i = (i ≤ length table) × (rowIn (drop i table) kind code ≡ rowOf kind code)
@@ -49,12 +43,11 @@ loop-less c = search needs
 
 loop-again : tie.Need-loop-again Inv-loop μ-loop
 unfolding table
-loop-again c =
-    (
-      search needs,
-      sym (rowIn-miss table _ _ _ _ (c .before .before .before .before .before .loop-test .taken) (c .before .before .before .before .row-at .ensures) (rw (c .before .within .ensures) at (c .if1 .left)))
-          ∙ c .before .before .before .before .before .before .loop .inv .1,
-    )
+loop-again c = (
+  search needs,
+  sym (rowIn-miss table _ _ _ _ (c .before .before .before .before .before .loop-test .taken) (c .before .before .before .before .row-at .ensures) (rw (c .before .within .ensures) at (c .if1 .left)))
+      ∙ c .before .before .before .before .before .before .loop .inv .1,
+)
 
 returns-2 : tie.Need-returns-2 Inv-loop μ-loop
 unfolding table

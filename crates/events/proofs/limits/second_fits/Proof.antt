@@ -3,9 +3,6 @@
 use borrow.Author.Needs.{needs}
 use Rattle.events.proofs.limits.second_fits.Statement.{statement}
 use Rattle.events.proofs.limits.second_fits.Tie as tie
-use Rattle.events.proofs.limits.second_fits.Reads as reads
-use Rattle.events.proofs.limits.second_fits.Lts as lts
-use Rattle.calendar.proofs.gregorian.in_range.Reads as in-range-reads
 
 enum-told : tie.Need-enum-told
 enum-told c = search needs

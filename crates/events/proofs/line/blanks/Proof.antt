@@ -8,8 +8,6 @@ use Prim.Native.Nat.{_≤_, _-_}
 use borrow.Author.Needs.{needs}
 use Rattle.events.proofs.line.blanks.Statement.{statement}
 use Rattle.events.proofs.line.blanks.Tie as tie
-use Rattle.events.proofs.line.blanks.Reads as reads
-use Rattle.events.proofs.line.blanks.Lts as lts
 
 abbrev Inv-loop : tie.InvT-loop
 Inv-loop field i₀ i = (i ≤ length field) × (readField field ≡ readField (drop i field))
@@ -17,41 +15,32 @@ Inv-loop field i₀ i = (i ≤ length field) × (readField field ≡ readField (
 abbrev μ-loop : tie.MeasureT-loop
 μ-loop field i₀ i = length field - i
 
--- src/line.rt:56:5
 loop-holds : tie.Need-loop-holds Inv-loop μ-loop
 loop-holds c = (search needs, refl)
 
--- src/line.rt:57:12
 shared-slice-read-if1 : tie.Need-shared-slice-read-if1 Inv-loop μ-loop
 shared-slice-read-if1 c = search needs
 
--- src/line.rt:58:13
 returns : tie.Need-returns Inv-loop μ-loop
-returns c =
-    (
-      search needs,
-      c .before .before .before .loop .inv .1
-          ∙ readField-number _ _ (c .before .before .loop-test .taken) (c .if1 .taken),
-    )
+returns c = (
+  search needs,
+  c .before .before .before .loop .inv .1
+      ∙ readField-number _ _ (c .before .before .loop-test .taken) (c .if1 .taken),
+)
 
--- src/line.rt:60:9
 add-i : tie.Need-add-i Inv-loop μ-loop
 add-i c = search needs
 
--- src/line.rt:56:5
 loop-less : tie.Need-loop-less Inv-loop μ-loop
 loop-less c = search needs
 
--- src/line.rt:56:5
 loop-again : tie.Need-loop-again Inv-loop μ-loop
-loop-again c =
-    (
-      search needs,
-      c .before .before .before .loop .inv .1
-          ∙ readField-blank _ _ (c .before .before .loop-test .taken) (c .if1 .left),
-    )
+loop-again c = (
+  search needs,
+  c .before .before .before .loop .inv .1
+      ∙ readField-blank _ _ (c .before .before .loop-test .taken) (c .if1 .left),
+)
 
--- src/line.rt:52:1
 returns-2 : tie.Need-returns-2 Inv-loop μ-loop
 returns-2 c = (c .before .loop .inv .0, c .before .loop .inv .1 ∙ readField-end _ _ (c .loop-test .left))
 

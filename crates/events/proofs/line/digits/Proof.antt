@@ -13,10 +13,6 @@ use native.Mathlib.Omega.{arith}
 use borrow.Author.Needs.{needs}
 use Rattle.events.proofs.line.digits.Statement.{statement}
 use Rattle.events.proofs.line.digits.Tie as tie
-use Rattle.events.proofs.line.digits.Reads as reads
-use Rattle.events.proofs.line.digits.Lts as lts
-use Rattle.events.proofs.line.is_digit.Reads as is-digit-reads
-use Rattle.events.proofs.line.wide.Reads as wide-reads
 
 abbrev Inv-loop : tie.InvT-loop
 Inv-loop field start v₀ i₀ v i =
@@ -41,61 +37,48 @@ digit c = sym (c .before .is-digit .ensures) ∙ not-false (c .if1 .left)
 range : (c : tie.Else1 Inv-loop μ-loop) → (zeroDigit ≤ byte c) × (byte c ≤ 57)
 range c = digit-facts (byte c) (digit c)
 
--- src/line.rt:78:5
 loop-holds : tie.Need-loop-holds Inv-loop μ-loop
 loop-holds c = (search needs, one-le-pow _ 10 (lit< tt), refl)
 
--- src/line.rt:79:17
 shared-slice-read-b : tie.Need-shared-slice-read-b Inv-loop μ-loop
 shared-slice-read-b c = search needs
 
--- src/line.rt:80:13
 is-digit-requires : tie.Need-is-digit-requires Inv-loop μ-loop
 is-digit-requires c κs = search needs
 
--- src/line.rt:81:13
 returns : tie.Need-returns Inv-loop μ-loop
 returns c =
     sym
     (c .before .before .before .before .loop .inv .2
     ∙ readDigits-other _ _ _ (c .before .before .before .loop-test .taken) (sym (c .before .is-digit .ensures) ∙ not-true (c .if1 .taken)))
 
--- src/line.rt:83:13
 mul-v : tie.Need-mul-v Inv-loop μ-loop
 mul-v c = omega (arith, room (c .before))
 
--- src/line.rt:83:27
 sub-wide : tie.Need-sub-wide Inv-loop μ-loop
 sub-wide c = range c .0
 
--- src/line.rt:83:22
 wide-requires : tie.Need-wide-requires Inv-loop μ-loop
 wide-requires c κs = search needs
 
--- src/line.rt:83:13
 add-v : tie.Need-add-v Inv-loop μ-loop
 add-v c = omega (arith, room (c .before .before), range (c .before), c .wide .ensures)
 
--- src/line.rt:84:9
 add-i : tie.Need-add-i Inv-loop μ-loop
 add-i c = search needs
 
--- src/line.rt:78:5
 loop-less : tie.Need-loop-less Inv-loop μ-loop
 loop-less c = search needs
 
--- src/line.rt:78:5
 loop-again : tie.Need-loop-again Inv-loop μ-loop
-loop-again c =
-    (
-      search needs,
-      narrow-next _ _ _ (c .before .before .before .before .before .loop .inv .1) (omega (arith, range (c .before), c .wide .ensures)),
-      c .before .before .before .before .before .loop .inv .2
-          ∙ readDigits-digit _ _ _ (c .before .before .before .before .loop-test .taken) (digit (c .before))
-          ∙ rw (c .wide .ensures),
-    )
+loop-again c = (
+  search needs,
+  narrow-next _ _ _ (c .before .before .before .before .before .loop .inv .1) (omega (arith, range (c .before), c .wide .ensures)),
+  c .before .before .before .before .before .loop .inv .2
+      ∙ readDigits-digit _ _ _ (c .before .before .before .before .loop-test .taken) (digit (c .before))
+      ∙ rw (c .wide .ensures),
+)
 
--- src/line.rt:72:1
 returns-2 : tie.Need-returns-2 Inv-loop μ-loop
 returns-2 c = sym (c .before .loop .inv .2 ∙ readDigits-end _ _ _ (c .loop-test .left))
 

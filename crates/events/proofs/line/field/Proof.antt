@@ -5,35 +5,26 @@ use lib.ListN.{take, drop}
 use native.Mathlib.Omega.{arith}
 use Prim.Native.Nat.{ℕ, _+_, _-_}
 use mathlib.Core.Path.{_≡_, ap, _∙_}
-use mathlib.Core.Path.{sym, _∙_}
+use mathlib.Core.Path.{_∙_}
 use borrow.Author.Needs.{needs}
 use Rattle.events.proofs.line.field.Statement.{statement}
 use Rattle.events.proofs.line.field.Tie as tie
-use Rattle.events.proofs.line.field.Reads as reads
-use Rattle.events.proofs.line.field.Lts as lts
-use Rattle.events.proofs.line.number.Reads as number-reads
 
--- src/line.rt:103:15
 add-end : tie.Need-add-end
 add-end c = search needs
 
--- src/line.rt:104:12
 sub-number : tie.Need-sub-number
 sub-number c = search needs
 
--- src/line.rt:104:12
 part-number-start : tie.Need-part-number-start
 part-number-start c = search needs
 
--- src/line.rt:104:12
 part-number-end : tie.Need-part-number-end
 part-number-end c = search needs
 
--- src/line.rt:104:5
 number-requires : tie.Need-number-requires
 number-requires c κs = search needs
 
--- src/line.rt:99:1
 returns : tie.Need-returns
 returns c =
     let s = c .before .before .before .args in

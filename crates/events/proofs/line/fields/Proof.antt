@@ -10,10 +10,6 @@ use mathlib.Core.Path.{_≡_, sym, ap, _∙_}
 use borrow.Author.Needs.{needs}
 use Rattle.events.proofs.line.fields.Statement.{statement}
 use Rattle.events.proofs.line.fields.Tie as tie
-use Rattle.events.proofs.line.fields.Reads as reads
-use Rattle.events.proofs.line.fields.Lts as lts
-use Rattle.events.proofs.line.field.Reads as field-reads
-use Rattle.events.proofs.line.judged.Reads as judged-reads
 
 abbrev line1 : tie.After-known-told → List ℕ
 line1 c = c .before .before .before .before .before .args .line .now
@@ -122,19 +118,15 @@ after9 c =
     ∙ after-value (values8 (c .before .before .before .before)) [] (line9 c) 72 2 (c .before .code .given .0 .0)
     (sym (c .before .before .before .field9 .ensures) ∙ c .before .code .given .1)
 
--- src/line.rt:118:36
 field-requires : tie.Need-field-requires
 field-requires c κs = search needs
 
--- src/line.rt:118:28
 enum-known-kind : tie.Need-enum-known-kind
 enum-known-kind c = search needs
 
--- src/line.rt:119:36
 enum-told : tie.Need-enum-told
 enum-told c = search needs
 
--- src/line.rt:119:9
 returns : tie.Need-returns
 returns c =
     ap taken
@@ -142,19 +134,15 @@ returns c =
     (after-none [] (9 ∷ 10 ∷ 10 ∷ 10 ∷ 10 ∷ 12 ∷ 9 ∷ 2 ∷ []) (c .before .before .before .before .args .line .now) 0 2
     (sym (c .before .before .field .ensures) ∙ c .enum-told .given .1)))
 
--- src/line.rt:121:36
 field-requires-2 : tie.Need-field-requires-2
 field-requires-2 c κs = search needs
 
--- src/line.rt:121:28
 enum-known-date : tie.Need-enum-known-date
 enum-known-date c = search needs
 
--- src/line.rt:122:36
 enum-told-2 : tie.Need-enum-told-2
 enum-told-2 c = search needs
 
--- src/line.rt:122:9
 returns-2 : tie.Need-returns-2
 returns-2 c =
     ap taken
@@ -163,19 +151,15 @@ returns-2 c =
     ∙ after-none (values1 (c .before .before .before)) (10 ∷ 10 ∷ 10 ∷ 10 ∷ 12 ∷ 9 ∷ 2 ∷ []) (line1 (c .before .before .before)) 2 9
     (sym (c .before .before .field2 .ensures) ∙ c .enum-told2 .given .1)))
 
--- src/line.rt:124:39
 field-requires-3 : tie.Need-field-requires-3
 field-requires-3 c κs = search needs
 
--- src/line.rt:124:28
 enum-known-mandate : tie.Need-enum-known-mandate
 enum-known-mandate c = search needs
 
--- src/line.rt:125:36
 enum-told-3 : tie.Need-enum-told-3
 enum-told-3 c = search needs
 
--- src/line.rt:125:9
 returns-3 : tie.Need-returns-3
 returns-3 c =
     ap taken
@@ -184,19 +168,15 @@ returns-3 c =
     ∙ after-none (values2 (c .before .before .before)) (10 ∷ 10 ∷ 10 ∷ 12 ∷ 9 ∷ 2 ∷ []) (line2 (c .before .before .before)) 11 10
     (sym (c .before .before .field3 .ensures) ∙ c .enum-told3 .given .1)))
 
--- src/line.rt:127:33
 field-requires-4 : tie.Need-field-requires-4
 field-requires-4 c κs = search needs
 
--- src/line.rt:127:28
 enum-known-a : tie.Need-enum-known-a
 enum-known-a c = search needs
 
--- src/line.rt:128:36
 enum-told-4 : tie.Need-enum-told-4
 enum-told-4 c = search needs
 
--- src/line.rt:128:9
 returns-4 : tie.Need-returns-4
 returns-4 c =
     ap taken
@@ -205,19 +185,15 @@ returns-4 c =
     ∙ after-none (values3 (c .before .before .before)) (10 ∷ 10 ∷ 12 ∷ 9 ∷ 2 ∷ []) (line3 (c .before .before .before)) 21 10
     (sym (c .before .before .field4 .ensures) ∙ c .enum-told4 .given .1)))
 
--- src/line.rt:130:33
 field-requires-5 : tie.Need-field-requires-5
 field-requires-5 c κs = search needs
 
--- src/line.rt:130:28
 enum-known-b : tie.Need-enum-known-b
 enum-known-b c = search needs
 
--- src/line.rt:131:36
 enum-told-5 : tie.Need-enum-told-5
 enum-told-5 c = search needs
 
--- src/line.rt:131:9
 returns-5 : tie.Need-returns-5
 returns-5 c =
     ap taken
@@ -226,19 +202,15 @@ returns-5 c =
     ∙ after-none (values4 (c .before .before .before)) (10 ∷ 12 ∷ 9 ∷ 2 ∷ []) (line4 (c .before .before .before)) 31 10
     (sym (c .before .before .field5 .ensures) ∙ c .enum-told5 .given .1)))
 
--- src/line.rt:133:33
 field-requires-6 : tie.Need-field-requires-6
 field-requires-6 c κs = search needs
 
--- src/line.rt:133:28
 enum-known-c : tie.Need-enum-known-c
 enum-known-c c = search needs
 
--- src/line.rt:134:36
 enum-told-6 : tie.Need-enum-told-6
 enum-told-6 c = search needs
 
--- src/line.rt:134:9
 returns-6 : tie.Need-returns-6
 returns-6 c =
     ap taken
@@ -247,19 +219,15 @@ returns-6 c =
     ∙ after-none (values5 (c .before .before .before)) (12 ∷ 9 ∷ 2 ∷ []) (line5 (c .before .before .before)) 41 10
     (sym (c .before .before .field6 .ensures) ∙ c .enum-told6 .given .1)))
 
--- src/line.rt:136:38
 field-requires-7 : tie.Need-field-requires-7
 field-requires-7 c κs = search needs
 
--- src/line.rt:136:28
 enum-known-amount : tie.Need-enum-known-amount
 enum-known-amount c = search needs
 
--- src/line.rt:137:36
 enum-told-7 : tie.Need-enum-told-7
 enum-told-7 c = search needs
 
--- src/line.rt:137:9
 returns-7 : tie.Need-returns-7
 returns-7 c =
     ap taken
@@ -268,19 +236,15 @@ returns-7 c =
     ∙ after-none (values6 (c .before .before .before)) (9 ∷ 2 ∷ []) (line6 (c .before .before .before)) 51 12
     (sym (c .before .before .field7 .ensures) ∙ c .enum-told7 .given .1)))
 
--- src/line.rt:139:38
 field-requires-8 : tie.Need-field-requires-8
 field-requires-8 c κs = (omega (arith, c .before .before .before .before .before .before .before .before .before .before .before .before .before .before .before .before .before .before .before .before .before .before .before .before .before .before .before .before .before .pre), lit≤ tt)
 
--- src/line.rt:139:28
 enum-known-second : tie.Need-enum-known-second
 enum-known-second c = search needs
 
--- src/line.rt:140:36
 enum-told-8 : tie.Need-enum-told-8
 enum-told-8 c = search needs
 
--- src/line.rt:140:9
 returns-8 : tie.Need-returns-8
 returns-8 c =
     ap taken
@@ -289,19 +253,15 @@ returns-8 c =
     ∙ after-none (values7 (c .before .before .before)) (2 ∷ []) (line7 (c .before .before .before)) 63 9
     (sym (c .before .before .field8 .ensures) ∙ c .enum-told8 .given .1)))
 
--- src/line.rt:142:36
 field-requires-9 : tie.Need-field-requires-9
 field-requires-9 c κs = (omega (arith, c .before .before .before .before .before .before .before .before .before .before .before .before .before .before .before .before .before .before .before .before .before .before .before .before .before .before .before .before .before .before .before .before .before .pre), lit≤ tt)
 
--- src/line.rt:142:28
 enum-known-code : tie.Need-enum-known-code
 enum-known-code c = search needs
 
--- src/line.rt:143:36
 enum-told-9 : tie.Need-enum-told-9
 enum-told-9 c = search needs
 
--- src/line.rt:143:9
 returns-9 : tie.Need-returns-9
 returns-9 c =
     ap taken
@@ -310,11 +270,9 @@ returns-9 c =
     ∙ after-none (values8 (c .before .before .before)) [] (line8 (c .before .before .before)) 72 2
     (sym (c .before .before .field9 .ensures) ∙ c .enum-told9 .given .1)))
 
--- src/line.rt:145:5
 judged-requires : tie.Need-judged-requires
 judged-requires c κs = search needs
 
--- src/line.rt:114:1
 returns-10 : tie.Need-returns-10
 returns-10 c = c .judged .ensures ∙ ap taken (sym (after9 (c .before)))
 

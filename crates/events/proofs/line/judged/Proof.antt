@@ -3,27 +3,19 @@
 use borrow.Author.Needs.{needs}
 use Rattle.events.proofs.line.judged.Statement.{statement}
 use Rattle.events.proofs.line.judged.Tie as tie
-use Rattle.events.proofs.line.judged.Reads as reads
-use Rattle.events.proofs.line.judged.Lts as lts
-use Rattle.events.proofs.limits.check.Reads as check-reads
 
--- src/line.rt:156:11
 check-requires : tie.Need-check-requires
 check-requires c κs = search needs
 
--- src/line.rt:157:28
 enum-told : tie.Need-enum-told
 enum-told c = search needs
 
--- src/line.rt:158:26
 enum-known-r : tie.Need-enum-known-r
 enum-known-r c = search needs
 
--- src/line.rt:153:1
 returns : tie.Need-returns
 returns c = rw (← c .before .before .check .ensures, c .enum-told .given .1)
 
--- src/line.rt:153:1
 returns-2 : tie.Need-returns-2
 returns-2 c = rw (← c .before .before .before .check .ensures, c .before .r .given .1)
 

@@ -5,38 +5,27 @@ use mathlib.Core.Path.{sym, _∙_}
 use borrow.Author.Needs.{needs}
 use Rattle.events.proofs.line.number.Statement.{statement}
 use Rattle.events.proofs.line.number.Tie as tie
-use Rattle.events.proofs.line.number.Reads as reads
-use Rattle.events.proofs.line.number.Lts as lts
-use Rattle.events.proofs.line.blanks.Reads as blanks-reads
-use Rattle.events.proofs.line.digits.Reads as digits-reads
 
--- src/line.rt:88:9
 blanks-requires : tie.Need-blanks-requires
 blanks-requires c κs = search needs
 
--- src/line.rt:90:13
 shared-slice-read-if2 : tie.Need-shared-slice-read-if2
 shared-slice-read-if2 c = search needs
 
--- src/line.rt:90:38
 add-if2 : tie.Need-add-if2
 add-if2 c = search needs
 
--- src/line.rt:91:13
 returns : tie.Need-returns
 returns c = sym (c .before .before .before .blanks .ensures .1 ∙ readNumber-lead _ _ (c .before .before .if1 .taken) (c .if2 .taken))
 
--- src/line.rt:93:9
 digits-requires : tie.Need-digits-requires
 digits-requires c κs = search needs
 
--- src/line.rt:93:9
 returns-2 : tie.Need-returns-2
 returns-2 c =
     c .digits .ensures
     ∙ sym (c .before .before .before .before .blanks .ensures .1 ∙ readNumber-digits _ _ (c .before .before .before .if1 .taken) (c .before .if2 .left))
 
--- src/line.rt:84:1
 returns-3 : tie.Need-returns-3
 returns-3 c = sym (c .before .blanks .ensures .1 ∙ readNumber-end _ _ (c .if1 .left))
 

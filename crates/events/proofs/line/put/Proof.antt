@@ -1,74 +1,101 @@
+-- `put` writes a field from its right edge on: what stands in the buffer and what is still to come make up the whole.
+-- Assumes nothing.
+use native.Mathlib.Nat.{le-antisymm}
+use Rattle.events.proofs.Laws.Line.{still, still-none, still-blank, still-digit, still-last}
+use Rattle.events.specs.Line.{padded}
+use lib.ListN.{length, length-set}
+use mathlib.Core.Path.{_≡_, refl, sym, _∙_}
+use Prim.Native.Nat.{_+_, _≤_, _-_}
+use native.Mathlib.Omega.{arith}
+use borrow.Author.Needs.{needs}
 use Rattle.events.proofs.line.put.Statement.{statement}
 use Rattle.events.proofs.line.put.Tie as tie
-use Rattle.events.proofs.line.put.Reads as reads
-use Rattle.events.proofs.line.put.Lts as lts
-use Rattle.events.proofs.line.last_digit.Reads as last-digit-reads
 
 abbrev Inv-loop : tie.InvT-loop
-Inv-loop out₀ at width v i₀ rest₀ out i rest = ?
+Inv-loop out₀ at width v i₀ rest₀ out i rest =
+    (at ≤ i)
+    × (i ≤ i₀)
+    × (length out ≡ length out₀)
+    × (still at i (padded (i - at) rest) out ≡ still at i₀ (padded (i₀ - at) rest₀) out₀)
 
 abbrev μ-loop : tie.MeasureT-loop
 μ-loop out₀ at width v i₀ rest₀ out i rest = i - at
 
--- src/line.rt:187:17
+-- the buffer keeps its length
+same : (c : tie.At-loop Inv-loop μ-loop) → length (c .loop .out) ≡ length (c .before .before .before .args .out .now)
+same c = c .loop .inv .2 ∙ simp length-set
+
+-- the field lies in it
+inside : (c : tie.At-loop Inv-loop μ-loop) → c .loop .i ≤ length (c .loop .out)
+inside c = omega (arith, same c, c .before .before .before .pre, c .loop .inv .1)
+
 add-i : tie.Need-add-i Inv-loop μ-loop
-add-i c = ?
+add-i c = search needs
 
--- src/line.rt:187:17
 sub-i : tie.Need-sub-i Inv-loop μ-loop
-sub-i c = ?
+sub-i c = search needs
 
--- src/line.rt:189:14
 last-digit-requires : tie.Need-last-digit-requires Inv-loop μ-loop
-last-digit-requires c κs = ?
+last-digit-requires c κs = search needs
 
--- src/line.rt:189:5
 slice-write-out : tie.Need-slice-write-out Inv-loop μ-loop
-slice-write-out c = ?
+slice-write-out c = search needs
 
--- src/line.rt:190:5
 loop-holds : tie.Need-loop-holds Inv-loop μ-loop
-loop-holds c = ?
+loop-holds c = (search needs, search needs, refl, refl)
 
--- src/line.rt:191:9
 sub-i-2 : tie.Need-sub-i-2 Inv-loop μ-loop
-sub-i-2 c = ?
+sub-i-2 c = search needs
 
--- src/line.rt:193:13
 slice-write-out-2 : tie.Need-slice-write-out-2 Inv-loop μ-loop
-slice-write-out-2 c = ?
+slice-write-out-2 c = omega (arith, inside (c .before .before))
 
--- src/line.rt:190:5
 loop-less : tie.Need-loop-less Inv-loop μ-loop
-loop-less c = ?
+loop-less c = search needs
 
--- src/line.rt:190:5
 loop-again : tie.Need-loop-again Inv-loop μ-loop
-loop-again c = ?
+loop-again c = (
+  search needs,
+  search needs,
+  simp length-set (same (c .before .before)),
+  still-blank _ _ _ (c .before .loop-test .taken) (inside (c .before .before)) _ (c .if1 .taken)
+      ∙ c .before .before .loop .inv .3,
+)
 
--- src/line.rt:195:22
 last-digit-requires-2 : tie.Need-last-digit-requires-2 Inv-loop μ-loop
-last-digit-requires-2 c κs = ?
+last-digit-requires-2 c κs = search needs
 
--- src/line.rt:195:13
 slice-write-out-3 : tie.Need-slice-write-out-3 Inv-loop μ-loop
-slice-write-out-3 c = ?
+slice-write-out-3 c = omega (arith, inside (c .before .before .before))
 
--- src/line.rt:190:5
 loop-less-2 : tie.Need-loop-less-2 Inv-loop μ-loop
-loop-less-2 c = ?
+loop-less-2 c = search needs
 
--- src/line.rt:190:5
 loop-again-2 : tie.Need-loop-again-2 Inv-loop μ-loop
-loop-again-2 c = ?
+loop-again-2 c = (
+  search needs,
+  search needs,
+  simp length-set (same (c .before .before .before)),
+  still-digit _ _ _ (c .before .before .loop-test .taken) (inside (c .before .before .before)) _ _
+      (c .before .if1 .left)
+      (c .last-digit2 .ensures)
+      ∙ c .before .before .before .loop .inv .3,
+)
 
--- src/line.rt:183:1
 same-length : tie.Need-same-length Inv-loop μ-loop
-same-length c = ?
+same-length c = same (c .before)
 
--- src/line.rt:183:1
 returns : tie.Need-returns Inv-loop μ-loop
-returns c = ?
+returns c =
+    let s = c .before .before .before .before in
+    sym (still-none _ _ _ _ (le-antisymm (c .loop-test .left) (c .before .loop .inv .0)))
+    ∙ c .before .loop .inv .3
+    ∙ still-last (s .args .at) (s .args .at + s .args .width) (s .args .out .now) (omega (arith, s .pre)) (s .pre .1)
+    (s .args .v)
+    (s .args .width)
+    _
+    refl
+    (c .before .before .last-digit .ensures)
 
 pub put-spec : {M : Type 1} → statement M
 put-spec =

@@ -1,42 +1,48 @@
+-- `write` goes by the room and then by the answer of `check`.
+-- Assumes nothing.
+use Rattle.events.proofs.Laws.Line.{writeAnswer-short, writeAnswer-checked, bytesAfter-refused, bytesAfter-written}
+use Rattle.events.specs.Line.{writtenOf}
+use mathlib.Core.Path.{sym, ap, _∙_}
 use borrow.Author.Needs.{needs}
 use Rattle.events.proofs.line.write.Statement.{statement}
 use Rattle.events.proofs.line.write.Tie as tie
-use Rattle.events.proofs.line.write.Reads as reads
-use Rattle.events.proofs.line.write.Lts as lts
-use Rattle.events.proofs.limits.check.Reads as check-reads
-use Rattle.events.proofs.line.put_line.Reads as put-line-reads
 
--- src/line.rt:224:9
 returns : tie.Need-returns
-returns c = ?
+returns c =
+    let s = c .before .before .args in
+    let p = writeAnswer-short (s .e) (s .out .now) (c .if1 .taken) in
+    (sym p, sym (bytesAfter-refused _ _ _ p))
 
--- src/line.rt:226:11
 check-requires : tie.Need-check-requires
 check-requires c κs = search needs
 
--- src/line.rt:227:26
 enum-known-r : tie.Need-enum-known-r
 enum-known-r c = search needs
 
--- src/line.rt:229:25
 enum-told : tie.Need-enum-told
 enum-told c = search needs
 
--- src/line.rt:229:13
 put-line-requires : tie.Need-put-line-requires
 put-line-requires c κs = search needs
 
--- src/line.rt:219:1
 returns-2 : tie.Need-returns-2
-returns-2 c = ?
+returns-2 c =
+    let s = c .before .before .before .before .before .before .args in
+    let p =
+    writeAnswer-checked (s .e) (s .out .now) (c .before .before .before .before .if1 .left)
+    ∙ ap writtenOf (sym (c .before .before .before .check .ensures) ∙ c .before .r .given .1) in
+    (sym p, sym (bytesAfter-refused _ _ _ p))
 
--- src/line.rt:219:1
 same-length : tie.Need-same-length
 same-length c = search needs
 
--- src/line.rt:219:1
 returns-3 : tie.Need-returns-3
-returns-3 c = ?
+returns-3 c =
+    let s = c .before .before .before .before .before .before .before .before .before .args in
+    let p =
+    writeAnswer-checked (s .e) (s .out .now) (c .before .before .before .before .before .before .before .if1 .left)
+    ∙ ap writtenOf (sym (c .before .before .before .before .before .before .check .ensures) ∙ c .before .before .before .before .enum-told .given .1) in
+    (sym p, c .before .before .put-line .ensures ∙ sym (bytesAfter-written _ _ p))
 
 pub write-spec : {M : Type 1} → statement M
 write-spec =
