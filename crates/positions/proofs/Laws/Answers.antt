@@ -2,7 +2,7 @@
 -- To cite: `post-fits` and `transfer-fits` (a posting within capacity is made), `settlementOf-is`, `reversedOf-is`,
 -- `refundedOf-is`. Assumes nothing.
 use mathlib.Core.Path.{_≡_, sym, _∙_, ap}
-use mathlib.Core.Bool.{Bool, true, false, _&&_}
+use mathlib.Core.Bool.{true, false, _&&_}
 use mathlib.Core.List.{List}
 use Prim.Native.Nat.{ℕ, _+_, _-_, _<_, _≤_, _^_}
 use native.Mathlib.Omega.{arith}
@@ -19,9 +19,10 @@ use Rattle.positions.specs.Positions.{isEntry, Entry, position, posted, 
 use Rattle.positions.specs.Postings.{settlement, reversed, refunded}
 use Rattle.positions.specs.Compensation.{amountLimit}
 use Rattle.positions.specs.Limits.{compensationLimit}
-use Rattle.positions.specs.Answers.{capacity, postAnswer, transferAnswer, afterPost, afterTransfer, settlementOf, reversedOf, refundedOf}
+use Rattle.positions.specs.Answers.{capacity, postSizes, postAnswer, transferSizes, transferAnswer, afterPost, afterTransfer, settlementOf, reversedOf, refundedOf}
 use Rattle.positions.proofs.Laws.Integers.{size-add, size-neg, within-size, size-within, size-fits}
-use Rattle.positions.proofs.Laws.Positions.{isEntry-entry, entry-isEntry, entry-posted, position-index, posted-index, position-posted-same, transferred-posted, size-transferred}
+use Rattle.positions.proofs.Laws.Positions.{isEntry-entry, entry-isEntry, entry-posted, position-index, posted-index}
+use Rattle.positions.proofs.Laws.Positions.{position-posted-same, transferred-posted, size-transferred}
 
 -- ---- as the code finds an entry, at the index k - 1
 
@@ -31,10 +32,6 @@ index-held :
 index-held l k x e f = (omega (arith, e .low, e .high), rw (position-index l k (e .low)) at f)
 
 -- ---- post
-
--- the sizes that a posting looks at
-abbrev pub postSizes : List ℤ → ℕ → ℤ → Bool
-postSizes l k x = within capacity (position l k) && within capacity x
 
 module _ (l : List ℤ) (k : ℕ) (x : ℤ) where
   pub post-no-entry : isEntry l k ≡ false → (NoEntry ≡ postAnswer l k x) × (l ≡ afterPost l k x)
@@ -78,10 +75,6 @@ module _ (l : List ℤ) (k : ℕ) (x : ℤ) where
       (sym (made .0), sym (made .1))
 
 -- ---- transfer
-
-abbrev pub transferSizes : List ℤ → ℕ → ℕ → ℤ → Bool
-transferSizes l from to x =
-    within capacity (position l from) && within capacity (position l to) && within capacity x
 
 module _ (l : List ℤ) (from to : ℕ) (x : ℤ) where
   pub transfer-no-entry :

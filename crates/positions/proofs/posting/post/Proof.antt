@@ -1,9 +1,9 @@
 -- `post` looks at the entry, then at the sizes, and adds to one cell. What each way answers and leaves is a law of `postAnswer`.
 -- Assumes nothing.
-use Rattle.positions.proofs.Laws.Answers.{postSizes, post-no-entry, post-too-large, post-made, post-stores, post-stored}
+use Rattle.positions.proofs.Laws.Answers.{post-no-entry, post-too-large, post-made, post-stores, post-stored}
 use Rattle.positions.proofs.Laws.Positions.{isEntry-entry}
 use Rattle.positions.specs.Positions.{isEntry, within}
-use Rattle.positions.specs.Answers.{capacity}
+use Rattle.positions.specs.Answers.{capacity, postSizes}
 use Rattle.common.proofs.Tests.{not-true, not-false}
 use mir.Facts.{toZ-ofZ}
 use mathlib.Core.Bool.{Bool, true, false, _&&_}

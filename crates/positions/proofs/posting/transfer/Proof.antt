@@ -1,17 +1,17 @@
 -- `transfer` looks at both entries, then at the sizes, and adds to two cells or twice to one. What each way answers and leaves is a
 -- law of `transferAnswer`. Assumes nothing.
-use Rattle.positions.proofs.Laws.Answers.{transferSizes, transfer-no-entry, transfer-too-large, transfer-made, transfer-amount}
+use Rattle.positions.proofs.Laws.Answers.{transfer-no-entry, transfer-too-large, transfer-made, transfer-amount}
 use Rattle.positions.proofs.Laws.Answers.{transfer-from, transfer-to, transfer-stores-from, transfer-stored-from, transfer-stores-to, transfer-stored-to}
 use Rattle.positions.proofs.Laws.Integers.{minus-fits, minus-back}
 use native.Mathlib.Omega.{arith}
 use lib.IntN.{negℤ, natAbs}
 use Rattle.positions.specs.Positions.{isEntry, posted, within}
-use Rattle.positions.specs.Answers.{capacity}
+use Rattle.positions.specs.Answers.{capacity, transferSizes}
 use Rattle.common.proofs.Tests.{not-true, not-false}
 use Prim.Native.Nat.{_<_, _^_}
 use mir.Facts.{toZ-ofZ}
 use mathlib.Core.Bool.{Bool, true, false, _&&_}
-use mathlib.Core.Path.{_≡_, sym, _∙_, ap}
+use mathlib.Core.Path.{_≡_, _∙_, ap}
 use borrow.Author.Needs.{needs}
 use Rattle.positions.proofs.posting.transfer.Statement.{statement}
 use Rattle.positions.proofs.posting.transfer.Tie as tie
@@ -62,7 +62,10 @@ amount-small c =
 first :
     (c : tie.After-add)
     → c .add .last .0
-    ≡ posted (last-start (c .before .before) .args .positions .now) (last-start (c .before .before) .args .from) (negℤ (last-start (c .before .before) .args .amount))
+    ≡ posted
+    (last-start (c .before .before) .args .positions .now)
+    (last-start (c .before .before) .args .from)
+    (negℤ (last-start (c .before .before) .args .amount))
 first c =
     let d = c .before .before in
     let a = last-start d .args in
