@@ -1,11 +1,10 @@
 -- What the calls answer, and what they leave in a table of positions: a refusal leaves every one as it was.
 -- Assumes nothing.
 use mathlib.Core.Bool.{Bool, cond, _&&_}
-use mathlib.Core.List.{List, [], _∷_}
+use mathlib.Core.List.{List}
 use Prim.Native.Nat.{ℕ}
 use lib.Dec.{leb}
 use lib.IntN.{ℤ}
-use Rattle.common.specs.Tests.{allOf}
 use Rattle.positions.specs.Compensation.{amountLimit}
 use Rattle.positions.specs.Limits.{compensationLimit}
 use Rattle.positions.specs.Postings.{settlement, reversed, refunded}
@@ -24,17 +23,18 @@ capacity = 4000000000000000000
 abbrev pub answerOf : Bool → Bool → PostAnswer
 answerOf entries sizes = cond entries (cond sizes Posted TooLarge) NoEntry
 
+abbrev pub postSizes : List ℤ → ℕ → ℤ → Bool
+postSizes l k x = within capacity (position l k) && within capacity x
+
 unfoldable pub postAnswer : List ℤ → ℕ → ℤ → PostAnswer
-postAnswer l k x = answerOf (isEntry l k) (within capacity (position l k) && within capacity x)
+postAnswer l k x = answerOf (isEntry l k) (postSizes l k x)
+
+abbrev pub transferSizes : List ℤ → ℕ → ℕ → ℤ → Bool
+transferSizes l from to x =
+    within capacity (position l from) && within capacity (position l to) && within capacity x
 
 unfoldable pub transferAnswer : List ℤ → ℕ → ℕ → ℤ → PostAnswer
-transferAnswer l from to x =
-    answerOf (isEntry l from && isEntry l to)
-    (allOf
-    (within capacity (position l from)
-    ∷ within capacity (position l to)
-    ∷ within capacity x
-    ∷ []))
+transferAnswer l from to x = answerOf (isEntry l from && isEntry l to) (transferSizes l from to x)
 
 -- ---- the table after the call
 

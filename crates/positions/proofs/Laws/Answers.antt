@@ -2,14 +2,14 @@
 -- To cite: `post-fits` and `transfer-fits` (a posting within capacity is made), `settlementOf-is`, `reversedOf-is`,
 -- `refundedOf-is`. Assumes nothing.
 use mathlib.Core.Path.{_≡_, sym, _∙_, ap}
-use mathlib.Core.Bool.{Bool, true, false, _&&_}
+use mathlib.Core.Bool.{true, false, _&&_}
 use mathlib.Core.List.{List}
-use Prim.Native.Nat.{ℕ, _+_, _-_, _<_, _≤_}
+use Prim.Native.Nat.{ℕ, _+_, _-_, _<_, _≤_, _^_}
 use native.Mathlib.Omega.{arith}
 use borrow.Author.Tests.{le-leb, lt-leb}
 use lib.Dec.{leb}
 use lib.IntN.{ℤ, pos, negℤ, natAbs, _+ℤ_, negℤ-negℤ}
-use lib.ListN.{length, getD}
+use lib.ListN.{length, getD, set}
 use mir.Syntax.{w64}
 use mir.Val.{SFits}
 use Rattle.common.proofs.Tests.{and-halves, and-true}
@@ -19,20 +19,19 @@ use Rattle.positions.specs.Positions.{isEntry, Entry, position, posted, 
 use Rattle.positions.specs.Postings.{settlement, reversed, refunded}
 use Rattle.positions.specs.Compensation.{amountLimit}
 use Rattle.positions.specs.Limits.{compensationLimit}
-use Rattle.positions.specs.Answers.{capacity, postAnswer, transferAnswer, afterPost, afterTransfer, settlementOf, reversedOf, refundedOf}
+use Rattle.positions.specs.Answers.{capacity, postSizes, postAnswer, transferSizes, transferAnswer, afterPost, afterTransfer, settlementOf, reversedOf, refundedOf}
 use Rattle.positions.proofs.Laws.Integers.{size-add, size-neg, within-size, size-within, size-fits}
-use Rattle.positions.proofs.Laws.Positions.{entry-isEntry, entry-posted, position-index, position-posted-same, transferred-posted, size-transferred}
+use Rattle.positions.proofs.Laws.Positions.{isEntry-entry, entry-isEntry, entry-posted, position-index, posted-index}
+use Rattle.positions.proofs.Laws.Positions.{position-posted-same, transferred-posted, size-transferred}
 
 -- ---- as the code finds an entry, at the index k - 1
 
-pub index-held : (l : List ℤ) (k : ℕ) (x : ℤ) → Entry l k → SFits w64 (position l k +ℤ x) → (k - 1 < length l) × SFits w64 (getD l (k - 1) (pos 0) +ℤ x)
+index-held :
+    (l : List ℤ) (k : ℕ) (x : ℤ) → Entry l k → SFits w64 (position l k +ℤ x)
+    → (k - 1 < length l) × SFits w64 (getD l (k - 1) (pos 0) +ℤ x)
 index-held l k x e f = (omega (arith, e .low, e .high), rw (position-index l k (e .low)) at f)
 
 -- ---- post
-
--- the sizes that a posting looks at
-abbrev pub postSizes : List ℤ → ℕ → ℤ → Bool
-postSizes l k x = within capacity (position l k) && within capacity x
 
 module _ (l : List ℤ) (k : ℕ) (x : ℤ) where
   pub post-no-entry : isEntry l k ≡ false → (NoEntry ≡ postAnswer l k x) × (l ≡ afterPost l k x)
@@ -48,7 +47,7 @@ module _ (l : List ℤ) (k : ℕ) (x : ℤ) where
   post-made e s = (rw (e, s), rw (e, s))
 
   -- 64 bits hold the new position
-  pub post-held : postSizes l k x ≡ true → SFits w64 (position l k +ℤ x)
+  post-held : postSizes l k x ≡ true → SFits w64 (position l k +ℤ x)
   post-held s =
       let h = and-halves (within capacity (position l k)) s in
       size-fits (position l k +ℤ x)
@@ -59,55 +58,111 @@ module _ (l : List ℤ) (k : ℕ) (x : ℤ) where
         within-size capacity x (h .1),
       ))
 
+  -- what the code stores, at the index k - 1
+  pub post-stores : isEntry l k ≡ true → postSizes l k x ≡ true → (k - 1 < length l) × SFits w64 (getD l (k - 1) (pos 0) +ℤ x)
+  post-stores e s = index-held l k x (isEntry-entry l k e) (post-held s)
+
+  pub post-stored :
+      isEntry l k ≡ true → postSizes l k x ≡ true → set l (k - 1) (getD l (k - 1) (pos 0) +ℤ x) ≡ afterPost l k x
+  post-stored e s = sym (posted-index l k x (isEntry-entry l k e .low)) ∙ post-made e s .1
+
   -- what a caller shows, and gets
-  pub post-fits : Entry l k → natAbs (position l k) ≤ capacity → natAbs x ≤ capacity → (postAnswer l k x ≡ Posted) × (afterPost l k x ≡ posted l k x)
+  pub post-fits :
+      Entry l k → natAbs (position l k) ≤ capacity → natAbs x ≤ capacity
+      → (postAnswer l k x ≡ Posted) × (afterPost l k x ≡ posted l k x)
   post-fits e p h =
       let made = post-made (entry-isEntry l k e) (and-true (size-within capacity (position l k) p) (size-within capacity x h)) in
       (sym (made .0), sym (made .1))
 
 -- ---- transfer
 
-abbrev pub transferSizes : List ℤ → ℕ → ℕ → ℤ → Bool
-transferSizes l from to x =
-    within capacity (position l from) && within capacity (position l to) && within capacity x
-
 module _ (l : List ℤ) (from to : ℕ) (x : ℤ) where
-  pub transfer-no-entry : isEntry l from && isEntry l to ≡ false → (NoEntry ≡ transferAnswer l from to x) × (l ≡ afterTransfer l from to x)
+  pub transfer-no-entry :
+      isEntry l from && isEntry l to ≡ false → (NoEntry ≡ transferAnswer l from to x) × (l ≡ afterTransfer l from to x)
   unfolding afterTransfer transferAnswer
   transfer-no-entry e = (rw e, rw e)
 
-  pub transfer-too-large : isEntry l from && isEntry l to ≡ true → transferSizes l from to x ≡ false → (TooLarge ≡ transferAnswer l from to x) × (l ≡ afterTransfer l from to x)
+  pub transfer-too-large :
+      isEntry l from && isEntry l to ≡ true → transferSizes l from to x ≡ false
+      → (TooLarge ≡ transferAnswer l from to x) × (l ≡ afterTransfer l from to x)
   unfolding afterTransfer transferAnswer
   transfer-too-large e s = (rw (e, s), rw (e, s))
 
-  pub transfer-made : isEntry l from && isEntry l to ≡ true → transferSizes l from to x ≡ true → (Posted ≡ transferAnswer l from to x) × (transferred l from to x ≡ afterTransfer l from to x)
+  pub transfer-made :
+      isEntry l from && isEntry l to ≡ true → transferSizes l from to x ≡ true
+      → (Posted ≡ transferAnswer l from to x) × (transferred l from to x ≡ afterTransfer l from to x)
   unfolding afterTransfer transferAnswer
   transfer-made e s = (rw (e, s), rw (e, s))
 
-  sizes-small : transferSizes l from to x ≡ true → (natAbs (position l from) ≤ capacity) × (natAbs (position l to) ≤ capacity) × (natAbs x ≤ capacity)
+  sizes-small :
+      transferSizes l from to x ≡ true
+      → (natAbs (position l from) ≤ capacity) × (natAbs (position l to) ≤ capacity) × (natAbs x ≤ capacity)
   sizes-small s =
       let h = and-halves (within capacity (position l from) && within capacity (position l to)) s in
-      let g = and-halves (within capacity (position l from)) (h .0) in
-      (within-size capacity (position l from) (g .0), within-size capacity (position l to) (g .1), within-size capacity x (h .1))
+      let g = and-halves (within capacity (position l from)) (h .0) in (
+        within-size capacity (position l from) (g .0),
+        within-size capacity (position l to) (g .1),
+        within-size capacity x (h .1),
+      )
 
-  pub transfer-amount : transferSizes l from to x ≡ true → natAbs x ≤ capacity
-  transfer-amount s = sizes-small s .2
+  pub transfer-amount : transferSizes l from to x ≡ true → natAbs x < 2 ^ 63
+  transfer-amount s = omega (arith, sizes-small s .2)
+
+  pub transfer-from : isEntry l from && isEntry l to ≡ true → Entry l from
+  transfer-from e = isEntry-entry l from (and-halves (isEntry l from) e .0)
+
+  pub transfer-to : isEntry l from && isEntry l to ≡ true → Entry l to
+  transfer-to e = isEntry-entry l to (and-halves (isEntry l from) e .1)
 
   -- 64 bits hold both new positions, the second after the first
-  pub transfer-held-from : transferSizes l from to x ≡ true → SFits w64 (position l from +ℤ negℤ x)
-  transfer-held-from s =
+  held-from : transferSizes l from to x ≡ true → SFits w64 (position l from +ℤ negℤ x)
+  held-from s =
       let h = sizes-small s in
       size-fits (position l from +ℤ negℤ x) (omega (arith, size-add (position l from) (negℤ x), size-neg x))
 
-  pub transfer-held-to : Entry l to → transferSizes l from to x ≡ true → SFits w64 (position (posted l from (negℤ x)) to +ℤ x)
-  transfer-held-to e s =
+  held-to : Entry l to → transferSizes l from to x ≡ true → SFits w64 (position (posted l from (negℤ x)) to +ℤ x)
+  held-to e s =
       let h = sizes-small s in
       let read = position-posted-same (posted l from (negℤ x)) to x (entry-posted l from to (negℤ x) e) in
       let after = ap (λ (t : List ℤ). position t to) (transferred-posted l from to x) in
       size-fits (position (posted l from (negℤ x)) to +ℤ x)
       (omega (arith, size-transferred l from to to x, ap natAbs (after ∙ read)))
 
-  pub transfer-fits : Entry l from → Entry l to → natAbs (position l from) ≤ capacity → natAbs (position l to) ≤ capacity → natAbs x ≤ capacity → (transferAnswer l from to x ≡ Posted) × (afterTransfer l from to x ≡ transferred l from to x)
+  -- what the code stores, first at one index and then at the other
+  pub transfer-stores-from :
+      isEntry l from && isEntry l to ≡ true
+      → transferSizes l from to x ≡ true
+      → (from - 1 < length l) × SFits w64 (getD l (from - 1) (pos 0) +ℤ negℤ x)
+  transfer-stores-from e s = index-held l from (negℤ x) (transfer-from e) (held-from s)
+
+  pub transfer-stored-from :
+      isEntry l from && isEntry l to ≡ true
+      → set l (from - 1) (getD l (from - 1) (pos 0) +ℤ negℤ x) ≡ posted l from (negℤ x)
+  transfer-stored-from e = sym (posted-index l from (negℤ x) (transfer-from e .low))
+
+  pub transfer-stores-to :
+      isEntry l from && isEntry l to ≡ true
+      → transferSizes l from to x ≡ true
+      → (to - 1 < length (posted l from (negℤ x))) × SFits w64 (getD (posted l from (negℤ x)) (to - 1) (pos 0) +ℤ x)
+  transfer-stores-to e s =
+      let t = transfer-to e in
+      index-held (posted l from (negℤ x)) to x (entry-posted l from to (negℤ x) t) (held-to t s)
+
+  pub transfer-stored-to :
+      isEntry l from && isEntry l to ≡ true
+      → transferSizes l from to x ≡ true
+      → set (posted l from (negℤ x)) (to - 1) (getD (posted l from (negℤ x)) (to - 1) (pos 0) +ℤ x)
+      ≡ afterTransfer l from to x
+  transfer-stored-to e s =
+      sym (posted-index (posted l from (negℤ x)) to x (transfer-to e .low))
+      ∙ sym (transferred-posted l from to x)
+      ∙ transfer-made e s .1
+
+  -- what a caller shows, and gets
+  pub transfer-fits :
+      Entry l from → Entry l to → natAbs (position l from) ≤ capacity → natAbs (position l to) ≤ capacity
+      → natAbs x ≤ capacity
+      → (transferAnswer l from to x ≡ Posted) × (afterTransfer l from to x ≡ transferred l from to x)
   transfer-fits f t p q h =
       let sizes = and-true (and-true (size-within capacity (position l from) p) (size-within capacity (position l to) q)) (size-within capacity x h) in
       let made = transfer-made (and-true (entry-isEntry l from f) (entry-isEntry l to t)) sizes in
@@ -140,11 +195,18 @@ unfolding refundedOf
 refundedOf-outside A K e = rw e
 
 -- the amounts as the code makes them, from the 64 bits of what is added and of what is taken
-pub settlement-amounts : (A : ℕ) (plus minus : ℤ) → plus ≡ pos A → minus ≡ negℤ (pos A) → A ≤ amountLimit → Amounts (record { debtor = minus; creditor = plus; dbank = minus; cbank = plus; compensation = pos 0 }) ≡ settlementOf A
+pub settlement-amounts :
+    (A : ℕ) (plus minus : ℤ) → plus ≡ pos A → minus ≡ negℤ (pos A) → A ≤ amountLimit
+    → Amounts (record { debtor = minus; creditor = plus; dbank = minus; cbank = plus; compensation = pos 0 }) ≡ settlementOf A
 settlement-amounts A plus minus p m h = rw (p, m) (sym (settlementOf-is A h))
 
-pub reversed-amounts : (A : ℕ) (plus minus : ℤ) → plus ≡ pos A → minus ≡ negℤ (pos A) → A ≤ amountLimit → Amounts (record { debtor = plus; creditor = minus; dbank = plus; cbank = minus; compensation = pos 0 }) ≡ reversedOf A
+pub reversed-amounts :
+    (A : ℕ) (plus minus : ℤ) → plus ≡ pos A → minus ≡ negℤ (pos A) → A ≤ amountLimit
+    → Amounts (record { debtor = plus; creditor = minus; dbank = plus; cbank = minus; compensation = pos 0 }) ≡ reversedOf A
 reversed-amounts A plus minus p m h = rw (p, m, reversedOf-is A h, negℤ-negℤ (pos A))
 
-pub refunded-amounts : (A K : ℕ) (back plus minus cents : ℤ) → back ≡ pos A → plus ≡ pos (A + K) → minus ≡ negℤ (pos (A + K)) → cents ≡ pos K → A ≤ amountLimit → K ≤ compensationLimit → Amounts (record { debtor = back; creditor = minus; dbank = plus; cbank = minus; compensation = cents }) ≡ refundedOf A K
+pub refunded-amounts :
+    (A K : ℕ) (back plus minus cents : ℤ) → back ≡ pos A → plus ≡ pos (A + K) → minus ≡ negℤ (pos (A + K))
+    → cents ≡ pos K → A ≤ amountLimit → K ≤ compensationLimit
+    → Amounts (record { debtor = back; creditor = minus; dbank = plus; cbank = minus; compensation = cents }) ≡ refundedOf A K
 refunded-amounts A K back plus minus cents b p m c h k = rw (b, p, m, c) (sym (refundedOf-is A K h k))

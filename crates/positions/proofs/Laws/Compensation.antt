@@ -126,7 +126,9 @@ pub compensationOf-cents : (a r d k : ℕ) → compensationOf a r d ≡ Cents k 
 unfolding compensationOf
 compensationOf-cents a r d k e = by-test (inLimits a r d) refl e
   where
-    by-test : (t : Bool) → inLimits a r d ≡ t → cond t (Cents (compensation a r d)) OutsideLimits ≡ Cents k → InLimits a r d × (k ≡ compensation a r d)
+    by-test :
+        (t : Bool) → inLimits a r d ≡ t → cond t (Cents (compensation a r d)) OutsideLimits ≡ Cents k
+        → InLimits a r d × (k ≡ compensation a r d)
     by-test true q p = (inLimits-parts a r d q, cc)
     by-test false q p = let z : _≡_ {A = ℕ} 0 1 = cc in absurd (omega arith)
 

@@ -178,11 +178,15 @@ pub within-posted : (m n : ℕ) (l : List ℤ) (k : ℕ) (x : ℤ) → Within m 
 within-posted m n l k x w h j = omega (arith, size-posted l k j x, w j)
 
 -- of both postings of a transfer no position sees more than one, or it sees them cancel
-pub size-transferred : (l : List ℤ) (from to j : ℕ) (x : ℤ) → natAbs (position (transferred l from to x) j) ≤ natAbs (position l j) + natAbs x
+pub size-transferred :
+    (l : List ℤ) (from to j : ℕ) (x : ℤ)
+    → natAbs (position (transferred l from to x) j) ≤ natAbs (position l j) + natAbs x
 unfolding transferred
 size-transferred l from to j x = by-test (eqb from to) (eqb j to) refl refl
   where
-    by-test : (s t : Bool) → eqb from to ≡ s → eqb j to ≡ t → natAbs (position (transferred l from to x) j) ≤ natAbs (position l j) + natAbs x
+    by-test :
+        (s t : Bool) → eqb from to ≡ s → eqb j to ≡ t
+        → natAbs (position (transferred l from to x) j) ≤ natAbs (position l j) + natAbs x
     by-test true t e q = rw (eqb-true from to e, transferred-same l to x) (omega arith)
     by-test false true e q =
         let other = position-posted-other l from to (negℤ x) (λ p. eqb-false from to e (sym p)) in
@@ -191,7 +195,8 @@ size-transferred l from to j x = by-test (eqb from to) (eqb j to) refl refl
         rw (position-posted-other (posted l from (negℤ x)) to j x (eqb-false j to q))
         (omega (arith, size-posted l from j (negℤ x), size-neg x))
 
-pub within-transferred : (m n : ℕ) (l : List ℤ) (from to : ℕ) (x : ℤ) → Within m l → natAbs x ≤ n → Within (m + n) (transferred l from to x)
+pub within-transferred :
+    (m n : ℕ) (l : List ℤ) (from to : ℕ) (x : ℤ) → Within m l → natAbs x ≤ n → Within (m + n) (transferred l from to x)
 within-transferred m n l from to x w h j = omega (arith, size-transferred l from to j x, w j)
 
 within-rest : (m : ℕ) (z : ℤ) (l : List ℤ) → Within m (z ∷ l) → Within m l

@@ -55,7 +55,11 @@ regroup : (a b c x y z : ℤ) → a +ℤ y +ℤ (b +ℤ x) +ℤ (c +ℤ z) ≡ a
 regroup a b c x y z = simp (+ℤ-assoc, +ℤ-comm, left-comm)
 
 -- creditors, debtors and total compensation
-pub parties-keep : (creditors debtors : List ℤ) (compensation : ℤ) (c d : ℕ) (p : Postings) → Entry creditors c → Entry debtors d → partySum p ≡ pos 0 → total (posted creditors c (p .creditor)) +ℤ total (posted debtors d (p .debtor)) +ℤ (compensation +ℤ p .compensation) ≡ total creditors +ℤ total debtors +ℤ compensation
+pub parties-keep :
+    (creditors debtors : List ℤ) (compensation : ℤ) (c d : ℕ) (p : Postings) → Entry creditors c → Entry debtors d
+    → partySum p ≡ pos 0
+    → total (posted creditors c (p .creditor)) +ℤ total (posted debtors d (p .debtor)) +ℤ (compensation +ℤ p .compensation)
+    ≡ total creditors +ℤ total debtors +ℤ compensation
 parties-keep creditors debtors compensation c d p hc hd e =
     rw (total-posted creditors c (p .creditor) hc, total-posted debtors d (p .debtor) hd)
     (regroup (total creditors) (total debtors) compensation (p .debtor) (p .creditor) (p .compensation)
@@ -63,7 +67,9 @@ parties-keep creditors debtors compensation c d p hc hd e =
     ∙ +ℤ-idr (total creditors +ℤ total debtors +ℤ compensation))
 
 -- the banks, equal ones too
-pub banks-keep : (banks : List ℤ) (d c : ℕ) (p : Postings) → Entry banks d → Entry banks c → bankSum p ≡ pos 0 → total (posted (posted banks d (p .dbank)) c (p .cbank)) ≡ total banks
+pub banks-keep :
+    (banks : List ℤ) (d c : ℕ) (p : Postings) → Entry banks d → Entry banks c → bankSum p ≡ pos 0
+    → total (posted (posted banks d (p .dbank)) c (p .cbank)) ≡ total banks
 banks-keep banks d c p hd hc e =
     total-posted (posted banks d (p .dbank)) c (p .cbank) (entry-posted banks d c (p .dbank) hc)
     ∙ ap (λ (z : ℤ). z +ℤ p .cbank) (total-posted banks d (p .dbank) hd)
@@ -74,15 +80,21 @@ banks-keep banks d c p hd hc e =
 -- ---- the two postings to the banks are one transfer
 
 -- from the debtor's bank to the creditor's
-pub settlement-transfer : (banks : List ℤ) (d c A : ℕ) → posted (posted banks d (settlement A .dbank)) c (settlement A .cbank) ≡ transferred banks d c (pos A)
+pub settlement-transfer :
+    (banks : List ℤ) (d c A : ℕ)
+    → posted (posted banks d (settlement A .dbank)) c (settlement A .cbank) ≡ transferred banks d c (pos A)
 settlement-transfer banks d c A = sym (transferred-posted banks d c (pos A))
 
 -- from the creditor's bank to the debtor's
-pub reversed-transfer : (banks : List ℤ) (d c A : ℕ) → posted (posted banks d (reversed A .dbank)) c (reversed A .cbank) ≡ transferred banks c d (pos A)
+pub reversed-transfer :
+    (banks : List ℤ) (d c A : ℕ)
+    → posted (posted banks d (reversed A .dbank)) c (reversed A .cbank) ≡ transferred banks c d (pos A)
 reversed-transfer banks d c A =
     ap (λ (z : ℤ). posted (posted banks d z) c (negℤ (pos A))) (negℤ-negℤ (pos A)) ∙ posted-transferred banks c d (pos A)
 
-pub refunded-transfer : (banks : List ℤ) (d c A K : ℕ) → posted (posted banks d (refunded A K .dbank)) c (refunded A K .cbank) ≡ transferred banks c d (pos (A + K))
+pub refunded-transfer :
+    (banks : List ℤ) (d c A K : ℕ)
+    → posted (posted banks d (refunded A K .dbank)) c (refunded A K .cbank) ≡ transferred banks c d (pos (A + K))
 refunded-transfer banks d c A K = posted-transferred banks c d (pos (A + K))
 
 -- ---- how large the amounts are

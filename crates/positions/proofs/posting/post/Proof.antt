@@ -1,29 +1,35 @@
 -- `post` looks at the entry, then at the sizes, and adds to one cell. What each way answers and leaves is a law of `postAnswer`.
 -- Assumes nothing.
-use Rattle.positions.proofs.Laws.Answers.{postSizes, index-held, post-no-entry, post-too-large, post-made, post-held}
-use Rattle.positions.proofs.Laws.Positions.{isEntry-entry, posted-index}
+use Rattle.positions.proofs.Laws.Answers.{post-no-entry, post-too-large, post-made, post-stores, post-stored}
+use Rattle.positions.proofs.Laws.Positions.{isEntry-entry}
 use Rattle.positions.specs.Positions.{isEntry, within}
-use Rattle.positions.specs.Answers.{capacity}
+use Rattle.positions.specs.Answers.{capacity, postSizes}
 use Rattle.common.proofs.Tests.{not-true, not-false}
 use mir.Facts.{toZ-ofZ}
-use mathlib.Core.Bool.{true, _&&_}
+use mathlib.Core.Bool.{Bool, true, false, _&&_}
 use mathlib.Core.Path.{_≡_, sym, _∙_, ap}
 use borrow.Author.Needs.{needs}
 use Rattle.positions.proofs.posting.post.Statement.{statement}
 use Rattle.positions.proofs.posting.post.Tie as tie
 
--- the entry that the first test found
-found : (c : tie.Else1) → isEntry (c .before .before .before .args .positions .now) (c .before .before .before .args .number) ≡ true
+-- what the two tests look at, in terms of the arguments
+abbrev Found : tie.Start → Bool → Type 0
+Found s b = isEntry (s .args .positions .now) (s .args .number) ≡ b
+
+abbrev Small : tie.Start → Bool → Type 0
+Small s b = postSizes (s .args .positions .now) (s .args .number) (s .args .amount) ≡ b
+
+found : (c : tie.Else1) → Found (c .before .before .before) true
 found c = sym (c .before .is-entry .ensures) ∙ not-false (c .if1 .left)
 
--- the sizes that the second test looks at
-sizes : (c : tie.After-in-capacity) → c .before .is-held .result && c .in-capacity .result ≡ postSizes (c .before .before .before .before .before .before .args .positions .now) (c .before .before .before .before .before .before .args .number) (c .before .before .before .before .before .before .args .amount)
-sizes c =
-    let s = c .before .before .before .before .before .before in
-    rw (
-      c .before .is-held .ensures,
-      c .in-capacity .ensures ∙ ap (within capacity) (toZ-ofZ (s .fits .amount)),
-    )
+-- where the function begins, seen from the second test
+abbrev start : tie.After-in-capacity → tie.Start
+start c = c .before .before .before .before .before .before
+
+small : (c : tie.After-in-capacity) (b : Bool) → c .before .is-held .result && c .in-capacity .result ≡ b → Small (start c) b
+small c b e =
+    let amount = c .in-capacity .ensures ∙ ap (within capacity) (toZ-ofZ (start c .fits .amount)) in
+    rw (c .before .is-held .ensures, amount) at e
 
 is-entry-requires : tie.Need-is-entry-requires
 is-entry-requires c κs = search needs
@@ -33,11 +39,8 @@ same-length c = search needs
 
 returns : tie.Need-returns
 returns c =
-    let s = c .before .before .before in
-    let l = s .args .positions .now in
-    let k = s .args .number in
-    let x = s .args .amount in
-    post-no-entry l k x (sym (c .before .is-entry .ensures) ∙ not-true (c .if1 .taken))
+    let a = c .before .before .before .args in
+    post-no-entry (a .positions .now) (a .number) (a .amount) (sym (c .before .is-entry .ensures) ∙ not-true (c .if1 .taken))
 
 is-held-requires : tie.Need-is-held-requires
 is-held-requires c κs = search needs
@@ -50,29 +53,23 @@ same-length-2 c = search needs
 
 returns-2 : tie.Need-returns-2
 returns-2 c =
-    let s = c .before .before .before .before .before .before .before in
-    let l = s .args .positions .now in
-    let k = s .args .number in
-    let x = s .args .amount in
-    post-too-large l k x (found (c .before .before .before .before)) (sym (sizes (c .before)) ∙ not-true (c .if2 .taken))
+    let a = c .before .before .before .before .before .before .before .args in
+    post-too-large (a .positions .now) (a .number) (a .amount)
+    (found (c .before .before .before .before))
+    (small (c .before) false (not-true (c .if2 .taken)))
 
 sub-add : tie.Need-sub-add
 sub-add c =
-    let s = c .before .before .before .before .before .before .before .before in
-    let l = s .args .positions .now in
-    let k = s .args .number in
-    let x = s .args .amount in
-    isEntry-entry l k (found (c .before .before .before .before .before)) .low
+    let a = c .before .before .before .before .before .before .before .before .args in
+    isEntry-entry (a .positions .now) (a .number) (found (c .before .before .before .before .before)) .low
 
 add-requires : tie.Need-add-requires
 add-requires c κs =
     let s = c .before .before .before .before .before .before .before .before in
-    let l = s .args .positions .now in
-    let k = s .args .number in
-    let x = s .args .amount in
-    let e = isEntry-entry l k (found (c .before .before .before .before .before)) in
     rw (toZ-ofZ (s .fits .amount))
-    (index-held l k x e (post-held l k x (sym (sizes (c .before .before)) ∙ not-false (c .before .if2 .left))))
+    (post-stores (s .args .positions .now) (s .args .number) (s .args .amount)
+    (found (c .before .before .before .before .before))
+    (small (c .before .before) true (not-false (c .before .if2 .left))))
 
 same-length-3 : tie.Need-same-length-3
 same-length-3 c = search needs
@@ -83,10 +80,9 @@ returns-3 c =
     let l = s .args .positions .now in
     let k = s .args .number in
     let x = s .args .amount in
-    let f = found (c .before .before .before .before .before .before .before) in
-    let made = post-made l k x f (sym (sizes (c .before .before .before .before)) ∙ not-false (c .before .before .before .if2 .left)) in
-    let table = sym (posted-index l k x (isEntry-entry l k f .low)) ∙ made .1 in
-    (made .0, c .before .add .ensures ∙ rw (toZ-ofZ (s .fits .amount)) table)
+    let e = found (c .before .before .before .before .before .before .before) in
+    let h = small (c .before .before .before .before) true (not-false (c .before .before .before .if2 .left)) in
+    (post-made l k x e h .0, c .before .add .ensures ∙ rw (toZ-ofZ (s .fits .amount)) (post-stored l k x e h))
 
 pub post-spec : {M : Type 1} → statement M
 post-spec =
