@@ -5,3 +5,4 @@ pub mod Sound  -- an event within its limits, and what its acceptance says
 pub mod Effects  -- what an effect is where the row of its number is known
 pub mod Agree  -- when a ledger and a journal agree
 pub mod KeptMandates  -- events 1 to 5 keep the agreement
+pub mod KeptTreatments  -- events 6 to 10 keep the agreement
