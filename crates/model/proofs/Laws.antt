@@ -6,3 +6,5 @@ pub mod Effects  -- what an effect is where the row of its number is known
 pub mod Agree  -- when a ledger and a journal agree
 pub mod KeptMandates  -- events 1 to 5 keep the agreement
 pub mod KeptTreatments  -- events 6 to 10 keep the agreement
+pub mod Spent  -- how far the collections can have moved a position
+pub mod Bounds  -- the positions stay within what the collections have moved, and the sums stay zero
