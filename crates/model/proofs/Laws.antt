@@ -8,3 +8,4 @@ pub mod KeptMandates  -- events 1 to 5 keep the agreement
 pub mod KeptTreatments  -- events 6 to 10 keep the agreement
 pub mod Spent  -- how far the collections can have moved a position
 pub mod Bounds  -- the positions stay within what the collections have moved, and the sums stay zero
+pub mod FitKept  -- every accepted event keeps the tables fit
