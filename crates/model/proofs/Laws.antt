@@ -9,3 +9,4 @@ pub mod KeptTreatments  -- events 6 to 10 keep the agreement
 pub mod Spent  -- how far the collections can have moved a position
 pub mod Bounds  -- the positions stay within what the collections have moved, and the sums stay zero
 pub mod FitKept  -- every accepted event keeps the tables fit
+pub mod Invariant  -- what every accepted event keeps

@@ -111,7 +111,7 @@ refunded-posting A K =
       cents-le = omega arith;
     }
 
-larger : {m n : ℕ} {p : Postings} → m ≤ n → Posting m p → Posting n p
+pub larger : {m n : ℕ} {p : Postings} → m ≤ n → Posting m p → Posting n p
 larger {m} {n} {p} h q =
     record {
       sizes =

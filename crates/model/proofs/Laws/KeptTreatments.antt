@@ -89,22 +89,22 @@ module _ (l : Ledger) (j : Journal) (t t' : (Treatment → Bool) → ℕ → ℕ
   pub noted-there : NotedAs (h .collection) (j .collections n)
   noted-there = noted-as (h .collection) (j .collections n) (rw (h .is) at (g .collections n))
 
-  creditor-entry : Entry (l .creditorPositions) (h .collection .creditor)
+  pub creditor-entry : Entry (l .creditorPositions) (h .collection .creditor)
   creditor-entry =
       let w = h .fits .creditor-fit in
       record { low = w .from; high = rw (z .creditor-positions) (w .to) }
 
-  debtor-entry : Entry (l .debtorPositions) (h .collection .debtor)
+  pub debtor-entry : Entry (l .debtorPositions) (h .collection .debtor)
   debtor-entry =
       let w = h .fits .debtor-fit in
       record { low = w .from; high = rw (z .debtor-positions) (w .to) }
 
-  dbank-entry : Entry (l .bankPositions) (h .collection .dbank)
+  pub dbank-entry : Entry (l .bankPositions) (h .collection .dbank)
   dbank-entry =
       let w = h .fits .dbank-fit in
       record { low = w .from; high = rw (z .bank-positions) (w .to) }
 
-  cbank-entry : Entry (l .bankPositions) (h .collection .cbank)
+  pub cbank-entry : Entry (l .bankPositions) (h .collection .cbank)
   cbank-entry =
       let w = h .fits .cbank-fit in
       record { low = w .from; high = rw (z .bank-positions) (w .to) }
