@@ -10,3 +10,6 @@ pub mod Spent  -- how far the collections can have moved a position
 pub mod Bounds  -- the positions stay within what the collections have moved, and the sums stay zero
 pub mod FitKept  -- every accepted event keeps the tables fit
 pub mod Invariant  -- what every accepted event keeps
+pub mod Lists  -- the journal and the counts after one more entry
+pub mod Sums  -- the sum of what the ledger answers
+pub mod Theorem  -- demand 3, proved

@@ -1,7 +1,7 @@
 -- Document 01, "Ten events": what an event asks for, read off its nine fields. The ten kinds fall into five sorts, by what they
 -- name: a creditor or a mandate to be added, a mandate to be changed, a collection to be presented, one to be treated.
 -- Assumes nothing.
-use mathlib.Core.Bool.{Bool, cond, false}
+use mathlib.Core.Bool.{Bool, cond}
 use Prim.Native.Nat.{ℕ}
 use lib.Dec.{eqb}
 use Rattle.events.specs.declared.Event.{Event}

@@ -9,7 +9,6 @@ use Rattle.common.specs.Checks.{Check, check, judged}
 use Rattle.refusals.specs.declared.Refusal.the-variants.{BeforeLatest, NotBusinessDay, AlreadyExists, DoesNotExist, NoRowLeft, NotLive, WrongSequence, BadTiming, Lapsed, WrongState, BeforeDue, AfterLastDay}
 use Rattle.calendar.specs.Target.{businessDay}
 use Rattle.tables.specs.declared.Mandate.{Mandate}
-use Rattle.tables.specs.declared.Collection.{Collection}
 use Rattle.tables.specs.declared.Standing.{Standing}
 use Rattle.tables.specs.declared.Standing.the-variants.{Live, Closed, Cancelled}
 use Rattle.tables.specs.declared.State.{State}
@@ -18,12 +17,12 @@ use Rattle.tables.specs.Ledger.{Ledger, added}
 use Rattle.tables.specs.Rows.{rows}
 use Rattle.model.specs.declared.Answer.{Answer}
 use Rattle.model.specs.declared.Answer.the-variants.{Accepted, Refused}
-use Rattle.model.specs.Actions.{Action, Change, Presentation, Treatment, Way, isRecurrent}
+use Rattle.model.specs.Actions.{Action, Change, Treatment, isRecurrent}
 use Rattle.model.specs.Actions.Action.{AddCreditor, AddMandate, ChangeMandate, Collect, Treat}
 use Rattle.model.specs.Actions.Change.{NewBank, NewCreditor, Cancel}
 use Rattle.model.specs.Actions.Treatment.{Settle, Reject, Undo}
 use Rattle.model.specs.Deadlines.{keptDue, timely, inTime, lapsedFor}
-use Rattle.model.specs.Lookups.{Known, isKnown, ofKnown, mandateOf, collectionOf}
+use Rattle.model.specs.Lookups.{isKnown, ofKnown, mandateOf, collectionOf}
 
 -- ---- 6: the event date is not before the latest date
 

@@ -1,7 +1,7 @@
 -- Document 01, "Ten events" and "Postings": what an accepted event does to the ledger. It reads the lowest row of a number,
 -- writes that row or the next one, and posts to the parties and banks that the collection keeps.
 -- Assumes nothing.
-use mathlib.Core.Bool.{Bool, true, false, cond, not, _&&_, _||_}
+use mathlib.Core.Bool.{Bool, cond, not, _&&_, _||_}
 use mathlib.Core.List.{List}
 use Prim.Native.Nat.{ℕ, _+_, _-_}
 use lib.Dec.{eqb, leb}
@@ -15,8 +15,7 @@ use Rattle.tables.specs.declared.Found.{Found}
 use Rattle.tables.specs.declared.Found.the-variants.{At, Nothing}
 use Rattle.tables.specs.declared.Mandate.{Mandate}
 use Rattle.tables.specs.declared.Collection.{Collection}
-use Rattle.tables.specs.declared.Standing.{Standing}
-use Rattle.tables.specs.declared.Standing.the-variants.{Live, Closed, Cancelled}
+use Rattle.tables.specs.declared.Standing.the-variants.{Closed, Cancelled}
 use Rattle.tables.specs.declared.State.{State}
 use Rattle.tables.specs.declared.State.the-variants.{Presented, Rejected, Settled, Undone}
 use Rattle.tables.specs.declared.Undoing.{Undoing}

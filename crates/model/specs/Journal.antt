@@ -1,17 +1,16 @@
 -- Document 01, "The journal". It is fed each event and whether it was accepted, and nothing from the tables.
 -- Assumes nothing.
-use mathlib.Core.Bool.{Bool, true, false, cond}
+use mathlib.Core.Bool.{cond}
 use mathlib.Core.List.{List, [], _∷_}
 use Prim.Native.Nat.{ℕ}
 use lib.Dec.{eqb}
 use lib.IntN.{ℤ, pos, _+ℤ_}
-use Rattle.events.specs.declared.Event.{Event}
 use Rattle.positions.specs.Postings.{settlement}
 use Rattle.positions.specs.declared.Postings.{Postings}
 use Rattle.tables.specs.declared.Mandate.{Mandate}
 use Rattle.tables.specs.declared.Standing.{Standing}
 use Rattle.tables.specs.declared.Standing.the-variants.{Live, Closed, Cancelled}
-use Rattle.model.specs.Actions.{Action, Change, Presentation, Treatment, Way, actionOf}
+use Rattle.model.specs.Actions.{Action, Change, Presentation, Treatment, actionOf}
 use Rattle.model.specs.Actions.Action.{AddCreditor, AddMandate, ChangeMandate, Collect, Treat}
 use Rattle.model.specs.Actions.Change.{NewBank, NewCreditor, Cancel}
 use Rattle.model.specs.Actions.Treatment.{Settle, Reject, Undo}

@@ -20,7 +20,7 @@ use Rattle.model.specs.Deadlines.{keptDue, inTime, lapsedFor}
 use Rattle.model.specs.Lookups.Known.{known}
 use Rattle.model.specs.Checks.{standsLive}
 use Rattle.model.specs.Step.{inQuery, query, run, Entry, history}
-use Rattle.model.specs.Journal.{Journal, NotedMandate, NotedCollection, journal, figureIn}
+use Rattle.model.specs.Journal.{NotedMandate, NotedCollection, journal, figureIn}
 
 -- ---- sums of what the ledger answers
 

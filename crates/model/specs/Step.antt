@@ -20,7 +20,7 @@ use Rattle.model.specs.declared.Answer.{Answer}
 use Rattle.model.specs.declared.Answer.the-variants.{Accepted, Refused}
 use Rattle.model.specs.declared.QueryAnswer.{QueryAnswer}
 use Rattle.model.specs.declared.QueryAnswer.the-variants as queries
-use Rattle.model.specs.Actions.{Action, actionOf}
+use Rattle.model.specs.Actions.{actionOf}
 use Rattle.model.specs.Checks.{ruled}
 use Rattle.model.specs.Effects.{effect}
 

@@ -4,7 +4,6 @@
 use mathlib.Core.Path.{_≡_}
 use Prim.Native.Nat.{ℕ}
 use mathlib.Core.Bool.{Bool}
-use lib.IntN.{ℤ}
 use Rattle.positions.specs.Positions.{position}
 use Rattle.tables.specs.Ledger.{Ledger, bankOf}
 use Rattle.tables.specs.declared.Mandate.{Mandate}

@@ -1,27 +1,25 @@
 -- The positions stay within what the collections have moved, and the sums stay zero.
 -- To cite: `Bounded`, `Balanced`, `Posting` with `settle-posting` and `undo-posting`, `bounded-posted`, `balanced-posted`. Assumes nothing.
-use mathlib.Core.Path.{_≡_, refl, sym, ap, subst, _∙_}
+use mathlib.Core.Path.{_≡_, refl, sym, _∙_}
 use mathlib.Core.Bool.{Bool, true, false, cond}
 use mathlib.Core.List.{List}
-use Prim.Native.Nat.{ℕ, _+_, _-_, _≤_, _<_}
+use Prim.Native.Nat.{ℕ, _+_, _-_, _≤_}
 use native.Mathlib.Omega.{arith}
 use lib.Dec.{eqb}
 use borrow.Author.Tests.{ltb-false}
 use lib.IntN.{ℤ, pos, negℤ, natAbs, _+ℤ_, negℤ-negℤ}
-use Rattle.common.proofs.Tests.{never, not-true}
+use Rattle.common.proofs.Tests.{not-true}
 use Rattle.calendar.specs.Gregorian.{inRange}
-use Rattle.calendar.specs.DayNumber.{dayNumber}
 use Rattle.calendar.specs.Periods.{periodEnd, isAfter}
 use Rattle.calendar.specs.declared.DateAnswer.{DateAnswer}
-use Rattle.calendar.specs.declared.DateAnswer.the-variants.{Date, NoDate}
+use Rattle.calendar.specs.declared.DateAnswer.the-variants.{Date}
 use Rattle.calendar.proofs.Laws.Gregorian.{range-facts}
-use Rattle.calendar.proofs.Laws.Answers.{DateAfter}
 use Rattle.calendar.proofs.Laws.DayNumber.{dayNumber-mono-le}
 use Rattle.calendar.proofs.Laws.PeriodEnds.{longest, range-period-end}
 use Rattle.positions.specs.declared.Postings.{Postings}
 use Rattle.positions.specs.Positions.{Entry, position, posted, transferred, total}
 use Rattle.positions.specs.Postings.{settlement, reversed, refunded, partySum, bankSum}
-use Rattle.positions.specs.Compensation.{compensation as compensationFor, amountLimit, rateLimit, daysLimit}
+use Rattle.positions.specs.Compensation.{compensation as compensationFor, amountLimit, daysLimit}
 use Rattle.positions.specs.Limits.{compensationLimit}
 use Rattle.positions.proofs.Laws.Positions.{size-posted, size-transferred}
 use Rattle.positions.proofs.Laws.Postings.{AtMost, settlement-size, reversed-size, refunded-size, settlement-parties, reversed-parties, refunded-parties, settlement-banks, reversed-banks, refunded-banks, parties-keep, banks-keep}
@@ -30,7 +28,7 @@ use Rattle.tables.specs.Ledger.{Ledger}
 use Rattle.tables.specs.declared.Collection.{Collection}
 use Rattle.model.specs.Actions.{Way}
 use Rattle.model.specs.Actions.Way.{ByReturn, ByRefund, ByReversal}
-use Rattle.model.specs.Deadlines.{Profile, core, periodOf, lastDay, inTime, daysSince}
+use Rattle.model.specs.Deadlines.{core, periodOf, lastDay, inTime, daysSince}
 use Rattle.model.specs.Effects.{dated, keepCollection, withPostings, undone}
 use Rattle.model.proofs.Laws.Sound.{SoundWay}
 use Rattle.model.proofs.Laws.Spent.{spent}

@@ -2,11 +2,10 @@
 -- To cite: `MandateThere` with `mandate-there`, `CollectionThere` with `collection-there`, `effect-change`, `effect-collect`, `effect-treat`.
 -- Assumes nothing.
 use mathlib.Core.Path.{_≡_, refl, sym, ap, _∙_}
-use mathlib.Core.Bool.{Bool, true, false}
+use mathlib.Core.Bool.{true, false}
 use mathlib.Core.List.{List}
-use Prim.Native.Nat.{ℕ, _+_, _*_, _<_}
+use Prim.Native.Nat.{ℕ, _*_, _<_}
 use native.Mathlib.Nat.{add-zero}
-use native.Mathlib.Omega.{arith}
 use lib.ListN.{getD}
 use Rattle.common.proofs.Tests.{never}
 use Rattle.tables.specs.Limits.{stride}
@@ -25,7 +24,7 @@ use Rattle.model.specs.Actions.Action.{ChangeMandate, Collect, Treat}
 use Rattle.model.specs.Lookups.{Known, isKnown, mandateOf, collectionOf}
 use Rattle.model.specs.Lookups.Known.{unknown, known}
 use Rattle.model.specs.Effects.{dated, keepMandate, keepCollection, addCollection, changed, presentedOn, newCollection, treated, postTreated, effect}
-use Rattle.model.proofs.Laws.Views.{Held, mandate-row, collection-row}
+use Rattle.model.proofs.Laws.Views.{mandate-row, collection-row}
 
 -- ---- what is known
 

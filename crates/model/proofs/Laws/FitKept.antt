@@ -1,37 +1,35 @@
 -- Every accepted event keeps the tables fit, as long as the positions stay within their limit.
 -- To cite: `fit-creditor`, `fit-mandate-added`, `fit-change`, `fit-collect`, `fit-treated`. Assumes nothing.
-use mathlib.Core.Path.{_≡_, refl, sym, ap, subst, _∙_}
-use mathlib.Core.Bool.{Bool, true, false, cond, _&&_, _||_}
+use mathlib.Core.Path.{_≡_, refl, ap, _∙_}
+use mathlib.Core.Bool.{Bool, true, false, _&&_, _||_}
 use mathlib.Core.Logic.{_≢_}
 use mathlib.Core.List.{List}
-use Prim.Native.Nat.{ℕ, suc, _+_, _-_, _*_, _%_, _≤_, _<_}
+use Prim.Native.Nat.{ℕ, suc, _+_, _-_, _≤_, _<_}
 use native.Mathlib.Omega.{arith}
 use lib.Dec.{eqb, leb}
 use lib.IntN.{ℤ, pos, natAbs, _+ℤ_}
-use lib.ListN.{length, getD, set, length-set}
+use lib.ListN.{getD, set, length-set}
 use borrow.Author.Tests.{le-leb}
-use Rattle.common.proofs.Tests.{never, not-true}
 use Rattle.calendar.specs.Gregorian.{inRange}
 use Rattle.calendar.proofs.Laws.Gregorian.{range-facts}
-use Rattle.calendar.proofs.Laws.BusinessDates.{keptDate, firstBusinessDay-is, kept-in-range}
+use Rattle.calendar.proofs.Laws.BusinessDates.{firstBusinessDay-is, kept-in-range}
 use Rattle.positions.specs.Positions.{position, posted}
-use Rattle.positions.specs.Limits.{rowMove, rowLimit}
 use Rattle.positions.proofs.Laws.Positions.{length-posted, posted-index, position-index, position-posted-same}
 use Rattle.positions.proofs.Laws.Limits.{moves-within-limit}
 use Rattle.positions.specs.declared.Postings.{Postings}
 use Rattle.positions.specs.Positions.{Entry}
-use Rattle.tables.specs.Limits.{stride, creditorCount, debtorCount, bankCount, positionLimit, mandateRowLimit, collectionRowLimit}
+use Rattle.tables.specs.Limits.{stride, bankCount, positionLimit, mandateRowLimit, collectionRowLimit}
 use Rattle.tables.specs.Ledger.{Ledger, bankOf, added}
 use Rattle.tables.specs.Records.{mandateCells, collectionCells, stateTag, stateDay}
-use Rattle.tables.specs.Rows.{rows, putRow, putMandate, putCollection}
-use Rattle.tables.specs.Fitness.{noneOrDate, positionFit, compensationFit, dayFit, rowsFit, mandateFit, collectionFit, creditorsFit, positionsFit, fit}
+use Rattle.tables.specs.Rows.{rows, putRow}
+use Rattle.tables.specs.Fitness.{noneOrDate, compensationFit, dayFit, rowsFit, mandateFit, collectionFit, creditorsFit, positionsFit, fit}
 use Rattle.tables.specs.declared.Mandate.{Mandate}
 use Rattle.tables.specs.declared.Collection.{Collection}
 use Rattle.tables.proofs.Laws.Ledger.{added-facts, bankOf-at}
 use Rattle.tables.proofs.Laws.Rows.{length-put, rows-put}
-use Rattle.tables.proofs.Laws.Fitness.{Within, RowCount, Sizes, HeaderFit, MandateFit, CollectionFit, Fit, fit-facts, fit-made, position-made, compensation-made, rowsFit-implies, rowsFit-put-used, rowsFit-put-next, mandate-made, collection-made, mandateFit-added, collectionFit-added, collectionFit-later, creditorsFit-added, creditorsFit-bank, creditorsFit-posted, positionsFit-made, day-made}
-use Rattle.model.specs.Actions.{Change, Presentation, Treatment, Way}
-use Rattle.model.specs.Actions.Action.{AddCreditor, AddMandate, ChangeMandate, Collect, Treat}
+use Rattle.tables.proofs.Laws.Fitness.{Within, RowCount, MandateFit, CollectionFit, Fit, fit-facts, fit-made, position-made, compensation-made, rowsFit-implies, rowsFit-put-used, rowsFit-put-next, mandate-made, collection-made, mandateFit-added, collectionFit-added, collectionFit-later, creditorsFit-added, creditorsFit-bank, creditorsFit-posted, positionsFit-made, day-made}
+use Rattle.model.specs.Actions.{Change, Presentation, Treatment}
+use Rattle.model.specs.Actions.Action.{AddCreditor, AddMandate, ChangeMandate, Collect}
 use Rattle.model.specs.Actions.Change.{NewBank, NewCreditor, Cancel}
 use Rattle.model.specs.Actions.Treatment.{Settle, Reject, Undo}
 use Rattle.model.specs.Actions.Way.{ByReturn, ByRefund, ByReversal}

@@ -1,22 +1,20 @@
 -- What every accepted event keeps, for any ledger and journal that agree: the tables are fit, the journal agrees, the sums are zero and
 -- the positions within what the collections have moved. To cite: `Sane`, `sane-kept`, `UndoFacts` with `undo-facts`. Assumes nothing.
 use mathlib.Core.Path.{_≡_, refl, sym, ap, subst, _∙_}
-use mathlib.Core.Bool.{Bool, true, false, cond, not, _&&_, _||_}
+use mathlib.Core.Bool.{Bool, true, not}
 use mathlib.Core.Logic.{_≢_}
-use mathlib.Core.List.{List}
 use Prim.Native.Nat.{ℕ, _+_, _≤_, _<_}
 use native.Mathlib.Omega.{arith}
-use lib.Dec.{eqb, leb, ltb}
 use borrow.Author.Tests.{leb-true, ltb-true}
-use Rattle.common.proofs.Tests.{never, not-true, and-halves}
+use Rattle.common.proofs.Tests.{not-true, and-halves}
 use Rattle.calendar.specs.Gregorian.{inRange}
 use Rattle.calendar.proofs.Laws.Gregorian.{range-facts}
 use Rattle.positions.specs.Compensation.{amountLimit}
 use Rattle.positions.specs.Limits.{compensationLimit}
 use Rattle.positions.specs.Postings.{settlement}
 use Rattle.positions.specs.declared.Postings.{Postings}
-use Rattle.tables.specs.Ledger.{Ledger, added}
-use Rattle.tables.specs.Rows.{rows, collectionAt, putCollection}
+use Rattle.tables.specs.Ledger.{Ledger}
+use Rattle.tables.specs.Rows.{rows, putCollection}
 use Rattle.tables.specs.Records.{stateTag, stateDay}
 use Rattle.tables.specs.Fitness.{dayFit, fit}
 use Rattle.tables.specs.declared.Mandate.{Mandate}
@@ -29,15 +27,15 @@ use Rattle.model.specs.Actions.Action.{AddCreditor, AddMandate, ChangeMa
 use Rattle.model.specs.Actions.Treatment.{Settle, Reject, Undo}
 use Rattle.model.specs.Deadlines.{inTime}
 use Rattle.model.specs.Lookups.{Known, isKnown, ofKnown, mandateOf, collectionOf}
-use Rattle.model.specs.Lookups.Known.{unknown, known}
-use Rattle.model.specs.Checks.{changeNames, isPresented, stateFits, settledOn, timeTreated}
+use Rattle.model.specs.Lookups.Known.{known}
+use Rattle.model.specs.Checks.{isPresented, stateFits, settledOn, timeTreated}
 use Rattle.model.specs.Effects.{dated, keepMandate, keepCollection, addCollection, withPostings, changed, presentedOn, newCollection, treated, undone, effect}
 use Rattle.model.specs.Journal.{Journal, note}
 use Rattle.model.proofs.Laws.Sound.{Sound, SoundWay, Passed}
 use Rattle.model.proofs.Laws.Effects.{not-known, MandateThere, mandate-there, CollectionThere, collection-there, effect-change, effect-collect, effect-treat}
 use Rattle.model.proofs.Laws.Agree.{Agrees}
 use Rattle.model.proofs.Laws.KeptMandates.{Counts, agrees-creditor, agrees-mandate, agrees-change, agrees-collect}
-use Rattle.model.proofs.Laws.KeptTreatments.{is-presented, IsSettled, is-settled, creditor-entry, debtor-entry, dbank-entry, cbank-entry, agrees-settle, agrees-reject, agrees-undo}
+use Rattle.model.proofs.Laws.KeptTreatments.{is-presented, is-settled, creditor-entry, debtor-entry, dbank-entry, cbank-entry, agrees-settle, agrees-reject, agrees-undo}
 use Rattle.model.proofs.Laws.Spent.{sumRows, moved, movedAt, spent, sum-treated, sum-added}
 use Rattle.model.proofs.Laws.Bounds.{Bounded, Balanced, Posting, larger, settle-posting, undo-posting, days-in-time, bounded-posted, balanced-posted}
 use Rattle.model.proofs.Laws.FitKept.{fit-creditor, fit-mandate-added, fit-change, fit-collect, fit-kept, fit-posted}

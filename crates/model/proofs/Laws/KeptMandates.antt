@@ -1,19 +1,18 @@
 -- Events 1 to 5 keep a ledger and a journal in agreement.
 -- To cite: `agrees-creditor`, `agrees-mandate`, `agrees-change`, `agrees-collect`. Assumes nothing.
 use mathlib.Core.Path.{_≡_, refl, sym, ap, _∙_}
-use mathlib.Core.Bool.{Bool, true, false, cond, not}
-use mathlib.Core.Logic.{⊎-elim, _≢_}
+use mathlib.Core.Bool.{Bool, true, false, cond}
+use mathlib.Core.Logic.{⊎-elim}
 use mathlib.Core.List.{List}
 use Prim.Native.Nat.{ℕ, _+_, _-_, _≤_, _<_}
-use native.Mathlib.Nat.{add-zero}
 use native.Mathlib.Omega.{arith}
-use lib.Dec.{eqb, ltb}
-use lib.ListN.{length, getD, set}
+use lib.Dec.{eqb}
+use lib.ListN.{length, set}
 use lib.Seq.{getD-set-same, getD-set-other}
-use borrow.Author.Tests.{eqb-true, eqb-false, eq-eqb, ne-eqb, ltb-true}
-use Rattle.common.proofs.Tests.{true-or-false, not-true, never}
+use borrow.Author.Tests.{eqb-true, eqb-false}
+use Rattle.common.proofs.Tests.{true-or-false, not-true}
 use Rattle.tables.specs.Limits.{creditorCount}
-use Rattle.tables.specs.Ledger.{Ledger, bankOf, added}
+use Rattle.tables.specs.Ledger.{Ledger, bankOf}
 use Rattle.tables.specs.Rows.{rows}
 use Rattle.tables.specs.Lookup.{lookup}
 use Rattle.tables.specs.declared.Mandate.{Mandate}
@@ -21,18 +20,18 @@ use Rattle.tables.specs.declared.Collection.{Collection}
 use Rattle.tables.specs.declared.State.{State}
 use Rattle.tables.specs.declared.State.the-variants.{Presented, Settled}
 use Rattle.tables.proofs.Laws.Ledger.{bankOf-zero, bankOf-at}
-use Rattle.tables.proofs.Laws.Fitness.{Within, MandateFit}
+use Rattle.tables.proofs.Laws.Fitness.{Within}
 use Rattle.model.specs.Actions.{Action, Change, Presentation, Treatment}
-use Rattle.model.specs.Actions.Action.{AddCreditor, AddMandate, ChangeMandate, Collect, Treat}
+use Rattle.model.specs.Actions.Action.{AddCreditor, AddMandate, ChangeMandate, Collect}
 use Rattle.model.specs.Actions.Change.{NewBank, NewCreditor, Cancel}
-use Rattle.model.specs.Lookups.{Known, isKnown, mandateOf, collectionOf}
+use Rattle.model.specs.Lookups.{Known, mandateOf, collectionOf}
 use Rattle.model.specs.Lookups.Known.{unknown, known}
 use Rattle.model.specs.Effects.{dated, keepMandate, addCollection, changed, presentedOn, newCollection, effect}
-use Rattle.model.specs.Journal.{Journal, NotedMandate, NotedCollection, noted, needing, withMandate, withCollection, newNoted, notedChange, notedPresented, notedCollection, note}
+use Rattle.model.specs.Journal.{Journal, NotedMandate, NotedCollection, noted, withMandate, withCollection, newNoted, notedChange, notedPresented, notedCollection, note}
 use Rattle.model.specs.Promises.{treats}
 use Rattle.model.proofs.Laws.Views.{mandateOf-keep, mandateOf-add, collectionOf-add}
 use Rattle.model.proofs.Laws.Sound.{SoundMandate}
-use Rattle.model.proofs.Laws.Effects.{not-known, MandateThere, effect-change, effect-collect}
+use Rattle.model.proofs.Laws.Effects.{MandateThere, effect-change, effect-collect}
 use Rattle.model.proofs.Laws.Agree.{notedOf, notedKnown, SameCollection, SameKnown, endsOf, undosOf, settlesOf, inKnown, Agrees}
 
 presented-not-settled : (s : ℕ) → Presented ≡ Settled s → ⊥

@@ -1,14 +1,13 @@
 -- Events 6 to 10 keep a ledger and a journal in agreement.
 -- To cite: `agrees-settle`, `agrees-reject`, `agrees-undo`; `IsSettled` with `is-settled`. Assumes nothing.
 use mathlib.Core.Path.{_≡_, refl, sym, ap, subst, _∙_}
-use mathlib.Core.Bool.{Bool, true, false, cond, _&&_}
+use mathlib.Core.Bool.{Bool, true, false, cond}
 use mathlib.Core.Logic.{⊎-elim, _≢_}
 use mathlib.Core.List.{List}
-use Prim.Native.Nat.{ℕ, _+_, _≤_, _<_}
+use Prim.Native.Nat.{ℕ, _+_}
 use native.Mathlib.Omega.{arith}
 use lib.Dec.{eqb}
 use lib.IntN.{ℤ, pos, _+ℤ_}
-use lib.ListN.{length}
 use borrow.Author.Tests.{eqb-true, eqb-false, eq-eqb, ne-eqb}
 use Rattle.common.proofs.Tests.{true-or-false, never}
 use Rattle.positions.specs.declared.Postings.{Postings}
@@ -21,14 +20,14 @@ use Rattle.tables.specs.declared.Collection.{Collection}
 use Rattle.tables.specs.declared.State.{State}
 use Rattle.tables.specs.declared.State.the-variants.{Presented, Rejected, Settled, Undone}
 use Rattle.tables.specs.declared.Undoing.{Undoing}
-use Rattle.tables.proofs.Laws.Fitness.{Sizes, Within, CollectionFit}
-use Rattle.model.specs.Actions.{Action, Treatment, Way}
+use Rattle.tables.proofs.Laws.Fitness.{Sizes}
+use Rattle.model.specs.Actions.{Treatment, Way}
 use Rattle.model.specs.Actions.Action.{Treat}
 use Rattle.model.specs.Actions.Treatment.{Settle, Reject, Undo}
-use Rattle.model.specs.Lookups.{Known, ofKnown, mandateOf, collectionOf}
+use Rattle.model.specs.Lookups.{Known, mandateOf, collectionOf}
 use Rattle.model.specs.Lookups.Known.{unknown, known}
 use Rattle.model.specs.Checks.{isPresented, isSettled, settledOn}
-use Rattle.model.specs.Effects.{dated, keepCollection, withPostings, stateAfter, treated, undone, postTreated, effect}
+use Rattle.model.specs.Effects.{dated, keepCollection, stateAfter, treated, undone, effect}
 use Rattle.model.specs.Journal.{Journal, NotedCollection, noted, plus, withCollection, withFigures, notedSettled, note}
 use Rattle.model.specs.Promises.{isEnd, isUndo, isSettle}
 use Rattle.model.proofs.Laws.Views.{collectionOf-keep}

@@ -1,20 +1,18 @@
 -- What an event within its limits asks for is within limits too, and what its acceptance says.
 -- To cite: `sound-event` (from `checked`), `Passed` with `passed` (from `ruled`). Assumes nothing.
-use mathlib.Core.Path.{_≡_, refl, sym, ap, _∙_}
+use mathlib.Core.Path.{_≡_, refl}
 use mathlib.Core.Bool.{Bool, true, false, cond, _&&_}
 use mathlib.Core.Logic.{⊎-elim}
 use mathlib.Core.List.{List, [], _∷_}
 use Prim.Native.Nat.{ℕ, zero, suc, _≤_}
-use lib.Dec.{eqb}
 use native.Mathlib.Omega.{arith}
 use Rattle.common.proofs.Tests.{never, and-halves}
-use Rattle.common.specs.Checks.{Check, check, judged}
-use Rattle.refusals.specs.declared.Refusal.{Refusal}
+use Rattle.common.specs.Checks.{Check, judged}
 use Rattle.calendar.specs.Gregorian.{inRange}
 use Rattle.events.specs.declared.Event.{Event}
 use Rattle.events.specs.declared.limits.Checked.the-variants.{Within as within}
 use Rattle.events.specs.Limits.{checked}
-use Rattle.events.proofs.Laws.Limits.{Between, Limited, checked-facts, kind-cases, CreditorFields, creditor-facts, MandateFields, mandate-facts, AmendBankFields, AmendCreditorFields, amend-facts, CancelFields, cancel-facts, CollectFields, collect-facts, CollectionField, settle-facts, reject-facts, return-facts, RefundFields, refund-facts, reversal-facts}
+use Rattle.events.proofs.Laws.Limits.{Between, Limited, checked-facts, kind-cases, creditor-facts, mandate-facts, AmendBankFields, AmendCreditorFields, amend-facts, collect-facts, refund-facts}
 use Rattle.tables.specs.Limits.{creditorCount, debtorCount, bankCount, numberLimit, amountLimit}
 use Rattle.tables.specs.Ledger.{Ledger}
 use Rattle.tables.specs.declared.Mandate.{Mandate}
@@ -22,7 +20,7 @@ use Rattle.tables.specs.declared.Standing.the-variants.{Live}
 use Rattle.tables.proofs.Laws.Fitness.{Within}
 use Rattle.model.specs.declared.Answer.{Answer}
 use Rattle.model.specs.declared.Answer.the-variants.{Accepted, Refused}
-use Rattle.model.specs.Actions.{Action, Change, Presentation, Treatment, Way, isRecurrent, newMandate, actionOf}
+use Rattle.model.specs.Actions.{Action, Change, Presentation, Treatment, Way, newMandate, actionOf}
 use Rattle.model.specs.Actions.Action.{AddCreditor, AddMandate, ChangeMandate, Collect, Treat}
 use Rattle.model.specs.Actions.Change.{NewBank, NewCreditor, Cancel}
 use Rattle.model.specs.Actions.Treatment.{Settle, Reject, Undo}
@@ -121,17 +119,34 @@ module _ (e : Event) (m : Limited e) where
 
   sound-action : Sound (actionOf e)
   sound-action =
-      kind-cases (Sound (actionOf e)) (e .kind) (m .kind)
-      (sound-creditor,
-      (sound-mandate,
-      (sound-amend,
-      (sound-cancel,
-      (sound-collect,
-      (λ h. rw (action-settle e h) tt,
-      (λ h. rw (action-reject e h) tt,
-      (λ h. rw (action-return e h) tt,
-      (sound-refund,
-      (λ h. rw (action-reversal e h) tt, tt))))))))))
+      kind-cases (Sound (actionOf e)) (e .kind) (m .kind) (
+        sound-creditor,
+        (
+          sound-mandate,
+          (
+            sound-amend,
+            (
+              sound-cancel,
+              (
+                sound-collect,
+                (
+                  λ h. rw (action-settle e h) tt,
+                  (
+                    λ h. rw (action-reject e h) tt,
+                    (
+                      λ h. rw (action-return e h) tt,
+                      (
+                        sound-refund,
+                        (λ h. rw (action-reversal e h) tt, tt),
+                      ),
+                    ),
+                  ),
+                ),
+              ),
+            ),
+          ),
+        ),
+      )
 
 pub sound-event : (e : Event) → checked e ≡ within → (inRange (e .date) ≡ true) × Sound (actionOf e)
 sound-event e h = let m = checked-facts e h in (m .date, sound-action e m)

@@ -1,6 +1,6 @@
 -- How far the collections can have moved a position: each settled row by an amount, each undone one by an amount more and its compensation.
 -- To cite: `spent`, `spent-limit`, `sum-treated`, `sum-added`. Assumes nothing.
-use mathlib.Core.Path.{_≡_, refl, sym, ap, _∙_}
+use mathlib.Core.Path.{_≡_, refl, ap, _∙_}
 use mathlib.Core.Logic.{⊎-elim, _≢_}
 use mathlib.Core.List.{List}
 use Prim.Native.Nat.{ℕ, zero, suc, _+_, _*_, _≤_, _<_}
@@ -83,6 +83,6 @@ module _ (cells : List ℕ) (used : ℕ) where
       ∙ omega (
         arith,
         sum-same (movedAt cells) (movedAt (putCollection cells used k)) used
-        (λ i l. ap (λ (c : Collection). moved (c .state)) (collectionAt-put-other cells used k i (λ s. omega arith))),
+            (λ i l. ap (λ (c : Collection). moved (c .state)) (collectionAt-put-other cells used k i (λ s. omega arith))),
         ap (λ (c : Collection). moved (c .state)) (collectionAt-put-same cells used k lent),
       )

@@ -2,10 +2,10 @@
 -- To cite: `mandateOf-keep`, `mandateOf-add`, `collectionOf-keep`, `collectionOf-add`; `mandate-row`, `collection-row` (the row of what is known).
 -- Assumes nothing.
 use mathlib.Core.Path.{_≡_, refl, sym, ap, _∙_}
-use mathlib.Core.Bool.{Bool, true, false, cond}
+use mathlib.Core.Bool.{Bool, false, cond}
 use mathlib.Core.Logic.{⊎-elim, _≢_}
 use mathlib.Core.List.{List}
-use Prim.Native.Nat.{ℕ, _+_, _≤_, _<_}
+use Prim.Native.Nat.{ℕ, _+_, _<_}
 use native.Mathlib.Omega.{arith}
 use lib.Dec.{eqb}
 use lib.ListN.{length, getD}
@@ -13,16 +13,16 @@ use borrow.Author.Tests.{eqb-true, eqb-false, eq-eqb, ne-eqb}
 use Rattle.common.proofs.Tests.{true-or-false}
 use Rattle.tables.specs.Limits.{stride}
 use Rattle.tables.specs.Ledger.{Ledger}
-use Rattle.tables.specs.Lookup.{lookup, numberAt, existing}
+use Rattle.tables.specs.Lookup.{lookup, numberAt}
 use Rattle.tables.specs.Records.{mandateCells, collectionCells}
-use Rattle.tables.specs.Rows.{rows, putRow, mandateAt, collectionAt, putMandate, putCollection}
+use Rattle.tables.specs.Rows.{rows, putRow, mandateAt, collectionAt}
 use Rattle.tables.specs.declared.Found.{Found}
 use Rattle.tables.specs.declared.Found.the-variants.{At, Nothing}
 use Rattle.tables.specs.declared.Mandate.{Mandate}
 use Rattle.tables.specs.declared.Collection.{Collection}
-use Rattle.tables.proofs.Laws.Lookup.{Lowest, lookup-at, lookup-cases, existing-rows, existing-used, orElse, lookup-put-kept, lookup-put-next}
+use Rattle.tables.proofs.Laws.Lookup.{lookup-at, existing-rows, existing-used, orElse, lookup-put-kept, lookup-put-next}
 use Rattle.tables.proofs.Laws.Rows.{mandateAt-put-same, mandateAt-put-other, collectionAt-put-same, collectionAt-put-other}
-use Rattle.model.specs.Lookups.{Known, inRow, mandateOf, collectionOf}
+use Rattle.model.specs.Lookups.{inRow, mandateOf, collectionOf}
 use Rattle.model.specs.Lookups.Known.{unknown, known}
 use Rattle.model.specs.Effects.{keepMandate, addMandate, keepCollection, addCollection}
 
@@ -61,8 +61,8 @@ module _ {A : Type 0} (at : List ℕ → ℕ → A) (cells : List ℕ) (used n :
 
   -- after a row with a number is written
   module _ (row : ℕ) (fields : List ℕ) (len : length fields ≡ stride) (number : getD fields 0 0 ≡ n) (a : A)
-    (same : at (putRow stride cells row fields) row ≡ a)
-    (other : (r : ℕ) → r ≢ row → at (putRow stride cells row fields) r ≡ at cells r) where
+      (same : at (putRow stride cells row fields) row ≡ a)
+      (other : (r : ℕ) → r ≢ row → at (putRow stride cells row fields) r ≡ at cells r) where
     -- another number is found where it was
     elsewhere : (k : ℕ) (f : Found) → ((r : ℕ) → f ≡ At r → r ≢ row) → inRow f (at (putRow stride cells row fields)) ≡ inRow f (at cells)
     elsewhere k Nothing d = refl
@@ -86,8 +86,8 @@ module _ {A : Type 0} (at : List ℕ → ℕ → A) (cells : List ℕ) (used n :
 
   -- after the next row is written
   module _ (fields : List ℕ) (len : length fields ≡ stride) (number : getD fields 0 0 ≡ n) (a : A)
-    (same : at (putRow stride cells used fields) used ≡ a)
-    (other : (r : ℕ) → r ≢ used → at (putRow stride cells used fields) r ≡ at cells r) where
+      (same : at (putRow stride cells used fields) used ≡ a)
+      (other : (r : ℕ) → r ≢ used → at (putRow stride cells used fields) r ≡ at cells r) where
     next-case : (k : ℕ) (f : Found) → lookup cells used k ≡ f → eqb k n ≡ false → inRow (orElse f (cond (eqb n k) (At used) Nothing)) (at (putRow stride cells used fields)) ≡ inRow f (at cells)
     next-case k Nothing e q = let p = eqb-false k n q in rw (ne-eqb n k (λ i. p (sym i)))
     next-case k (At r) e q =

@@ -1,0 +1,344 @@
+-- Demand 3, proved: `demand3`. First each event keeps the invariant, whatever its answer; then every list does, from any ledger
+-- and journal that agree (`run-keeps`); then the opening starts it. Assumes nothing.
+use mathlib.Core.Path.{_≡_, refl, sym, ap, subst, _∙_}
+use mathlib.Core.Bool.{Bool, true, false, cond, not, _&&_}
+use mathlib.Core.List.{List, [], _∷_, _++_, append-assoc, append-nil}
+use Prim.Native.Nat.{ℕ, zero, suc, _+_, _-_, _≤_}
+use native.Mathlib.Omega.{arith}
+use lib.Dec.{eqb, leb}
+use lib.IntN.{ℤ}
+use lib.ListN.{length, getD, replicate}
+use borrow.Author.Tests.{le-leb}
+use Rattle.common.proofs.Tests.{never, not-true}
+use Rattle.events.specs.declared.Event.{Event}
+use Rattle.events.specs.declared.limits.Checked.{Checked}
+use Rattle.events.specs.declared.limits.Checked.the-variants as events
+use Rattle.events.specs.Limits.{checked}
+use Rattle.positions.specs.Positions.{position, total}
+use Rattle.positions.proofs.Laws.Positions.{total-zeros, position-zeros}
+use Rattle.tables.specs.Limits.{creditorCount, debtorCount, bankCount}
+use Rattle.tables.specs.Ledger.{Ledger, bankOf}
+use Rattle.tables.specs.Lookup.{lookup}
+use Rattle.tables.specs.Fitness.{sizesFit, fit}
+use Rattle.tables.specs.Opening.{fresh, opened}
+use Rattle.tables.specs.declared.Found.the-variants.{Nothing}
+use Rattle.tables.specs.declared.Mandate.{Mandate}
+use Rattle.tables.specs.declared.Collection.{Collection}
+use Rattle.tables.specs.declared.State.{State}
+use Rattle.tables.specs.declared.State.the-variants.{Presented, Rejected, Settled, Undone}
+use Rattle.tables.proofs.Laws.Lookup.{lookup-none, existing-used}
+use Rattle.tables.proofs.Laws.Opening.{opened-done, fresh-fit}
+use Rattle.tables.proofs.Laws.Fitness.{fit-facts}
+use Rattle.model.specs.declared.Answer.{Answer}
+use Rattle.model.specs.declared.Answer.the-variants.{Accepted, Refused}
+use Rattle.model.specs.declared.QueryAnswer.the-variants as queries
+use Rattle.model.specs.Actions.{Presentation, Treatment, Way, actionOf}
+use Rattle.model.specs.Actions.Action.{Collect, Treat}
+use Rattle.model.specs.Actions.Treatment.{Undo}
+use Rattle.model.specs.Deadlines.{keptDue, inTime, lapsedFor}
+use Rattle.model.specs.Lookups.{Known, ofKnown, mandateOf, collectionOf}
+use Rattle.model.specs.Lookups.Known.{unknown, known}
+use Rattle.model.specs.Checks.{standsLive, ruled}
+use Rattle.model.specs.Effects.{effect}
+use Rattle.model.specs.Step.{isAccepted, thenRuled, answer, afterAnswer, after, inQuery, figureOf, query, run, Entry, entry, history}
+use Rattle.model.specs.Journal.{Journal, journalFrom, journal, figureIn}
+use Rattle.model.specs.Promises.{answered, sumTo, sumOf, isUndo, isEnd, isSettle, times, UndoneInTime, CollectedLive, Kept, Demand3}
+use Rattle.model.proofs.Laws.Sound.{sound-event, Passed, passed}
+use Rattle.model.proofs.Laws.Effects.{mandate-there, collection-there}
+use Rattle.model.proofs.Laws.Agree.{notedOf, notedKnown, endsOf, undosOf, settlesOf, inKnown, Agrees}
+use Rattle.model.proofs.Laws.KeptTreatments.{noted-there}
+use Rattle.model.proofs.Laws.Invariant.{Sane, sane-kept, undo-facts}
+use Rattle.model.proofs.Laws.Lists.{journal-more, times-more, AllPast, past-at}
+use Rattle.model.proofs.Laws.Sums.{sumTo-same, sumTo-total}
+
+-- ---- what an answer says
+
+checked-passed : (c : Checked) (a : Answer) → thenRuled c a ≡ Accepted → (c ≡ events.Within) × (a ≡ Accepted)
+checked-passed events.Within a e = (refl, e)
+checked-passed (events.Refused r) a e = let z : _≡_ {A = ℕ} 0 1 = cc in absurd (omega arith)
+
+module _ (l : Ledger) (e : Event) (f : fit l ≡ true) where
+  answer-fit : answer l e ≡ thenRuled (checked e) (ruled l (e .date) (actionOf e))
+  unfolding answer
+  answer-fit = rw f
+
+  pub accepted-passed : answer l e ≡ Accepted → (checked e ≡ events.Within) × Passed l (e .date) (actionOf e)
+  accepted-passed h =
+      let p = checked-passed (checked e) (ruled l (e .date) (actionOf e)) (sym answer-fit ∙ h) in
+      (p .0, passed l (e .date) (actionOf e) (p .1))
+
+after-accepted : (l : Ledger) (e : Event) → answer l e ≡ Accepted → after l e ≡ effect l (e .date) (actionOf e)
+unfolding after
+after-accepted l e h = rw h
+
+is-refused : (a : Answer) → isAccepted a ≡ false → (c l : Ledger) → afterAnswer a c l ≡ l
+is-refused Accepted h c l = absurd (never refl h)
+is-refused (Refused r) h c l = refl
+
+after-refused : (l : Ledger) (e : Event) → isAccepted (answer l e) ≡ false → after l e ≡ l
+unfolding after
+after-refused l e h = is-refused (answer l e) h (effect l (e .date) (actionOf e)) l
+
+is-accepted : (a : Answer) → isAccepted a ≡ true → a ≡ Accepted
+is-accepted Accepted h = refl
+is-accepted (Refused r) h = absurd (never h refl)
+
+-- ---- the invariant over a history
+
+-- the counts of a history
+countsOf : List Entry → (Treatment → Bool) → ℕ → ℕ
+countsOf h sort c = times sort c h
+
+pub Past : Ledger → List Entry → Type 0
+Past l h = Sane l (journal h) (countsOf h)
+
+-- what the last entry of a history is
+last : Ledger → Event → Entry
+last l e = entry e (isAccepted (answer l e))
+
+past-accepted : (l : Ledger) (h : List Entry) (e : Event) → Past l h → answer l e ≡ Accepted → Past (effect l (e .date) (actionOf e)) (h ++ (entry e true ∷ []))
+unfolding Past countsOf
+past-accepted l h e s a =
+    let p = accepted-passed l e (s .fits) a in
+    let o = sound-event e (p .0) in
+    rw (journal-more h (entry e true))
+    (sane-kept l (journal h) (countsOf h) (countsOf (h ++ (entry e true ∷ []))) (e .date) s (o .0) (actionOf e) (o .1) (p .1)
+    (λ sort c. times-more sort c h (entry e true)))
+
+-- counts that are the same
+sane-same : (l : Ledger) (j : Journal) (t t' : (Treatment → Bool) → ℕ → ℕ) → ((sort : Treatment → Bool) (c : ℕ) → t' sort c ≡ t sort c) → Sane l j t → Sane l j t'
+sane-same l j t t' same s =
+    let g = s .agrees in
+    record {
+      fits = s .fits;
+      agrees =
+          record {
+            banks = g .banks;
+            mandates = g .mandates;
+            collections = g .collections;
+            creditor-figures = g .creditor-figures;
+            debtor-figures = g .debtor-figures;
+            bank-figures = g .bank-figures;
+            compensation = g .compensation;
+            ended = λ c. same isEnd c ∙ g .ended c;
+            undone = λ c. same isUndo c ∙ g .undone c;
+            settled = λ c. same isSettle c ∙ g .settled c;
+          };
+      balanced = s .balanced;
+      bounded = s .bounded;
+    }
+
+past-refused : (l : Ledger) (h : List Entry) (e : Event) → Past l h → Past l (h ++ (entry e false ∷ []))
+unfolding Past countsOf
+past-refused l h e s =
+    rw (journal-more h (entry e false))
+    (sane-same l (journal h) (countsOf h) (countsOf (h ++ (entry e false ∷ [])))
+    (λ sort c. let m = times-more sort c h (entry e false) in omega arith) s)
+
+past-case : (l : Ledger) (h : List Entry) (e : Event) (b : Bool) → isAccepted (answer l e) ≡ b → Past l h → Past (after l e) (h ++ (entry e b ∷ []))
+past-case l h e true i s =
+    let a = is-accepted (answer l e) i in
+    rw (after-accepted l e a) (past-accepted l h e s a)
+past-case l h e false i s = rw (after-refused l e i) (past-refused l h e s)
+
+-- one event, whatever its answer
+past-kept : (l : Ledger) (h : List Entry) (e : Event) → Past l h → Past (after l e) (h ++ (last l e ∷ []))
+unfolding last
+past-kept l h e s = past-case l h e (isAccepted (answer l e)) refl s
+
+-- ---- what is claimed of each accepted event by the journal before it
+
+pub record InTurn (before : List Entry) (x : Entry) : Type 0 where
+  pub undone :
+      (c : ℕ) (way : Way) → x .accepted ≡ true → actionOf (x .event) ≡ Treat c (Undo way)
+      → UndoneInTime before c (x .event .date) way
+  pub collected : (p : Presentation) → x .accepted ≡ true → actionOf (x .event) ≡ Collect p → CollectedLive before p
+
+of-known : {A : Type 0} {x : Known A} {a : A} (f : A → Bool) → x ≡ known a → ofKnown x f ≡ true → f a ≡ true
+of-known {x = x} f e h = rw e at h
+
+module _ (l : Ledger) (h : List Entry) (s : Past l h) (date : ℕ) where
+  sane : Sane l (journal h) (countsOf h)
+  unfolding Past
+  sane = s
+
+  undone-in-time : (c : ℕ) (way : Way) → Passed l date (Treat c (Undo way)) → UndoneInTime h c date way
+  unfolding countsOf
+  undone-in-time c way p =
+      let t = collection-there l c (sane .fits) (p .there) in
+      let u = undo-facts l c date way t p in
+      let n = noted-there l (journal h) (countsOf h) (countsOf h) date (sane .agrees) (fit-facts l (sane .fits) .sizes) c t in
+      record {
+        settled-once = sane .agrees .settled c ∙ ap (inKnown settlesOf) (t .is) ∙ ap settlesOf (u .state);
+        collection = n .value;
+        is-noted = n .is;
+        in-time = ap (λ (d : ℕ). inTime way d date) (n .same .settled (u .day) (u .state)) ∙ u .in-time;
+      }
+
+  collected-live : (p : Presentation) → Passed l date (Collect p) → CollectedLive h p
+  unfolding notedOf
+  collected-live p q =
+      let t = mandate-there l (p .mandate) (sane .fits) (q .there) in
+      record {
+        mandate = notedOf (t .mandate);
+        is-noted = sym (sane .agrees .mandates (p .mandate)) ∙ ap notedKnown (t .is);
+        is-live = of-known (λ (m : Mandate). standsLive (m .standing)) (t .is) (q .live);
+        not-lapsed =
+            not-true
+            (of-known (λ (m : Mandate). not (lapsedFor (keptDue (p .requested)) (m .presented) (m .signed))) (t .is) (q .lapse));
+      }
+
+in-turn : (l : Ledger) (h : List Entry) (e : Event) → Past l h → InTurn h (last l e)
+unfolding last Past
+in-turn l h e s =
+    let pass : isAccepted (answer l e) ≡ true → Passed l (e .date) (actionOf e) = λ a. accepted-passed l e (s .fits) (is-accepted (answer l e) a) .1 in
+    record {
+      undone = λ c way a i. undone-in-time l h s (e .date) c way (subst (Passed l (e .date)) i (pass a));
+      collected = λ p a i. collected-live l h s (e .date) p (subst (Passed l (e .date)) i (pass a));
+    }
+
+-- ---- every list, from any ledger and history that agree
+
+pub record RunKeeps (l : Ledger) (h : List Entry) (es : List Event) : Type 0 where
+  pub past : Past (run l es) (h ++ history l es)
+  pub turns : AllPast InTurn h (history l es)
+
+pub run-keeps : (es : List Event) (l : Ledger) (h : List Entry) → Past l h → RunKeeps l h es
+unfolding run history last
+run-keeps [] l h s = record { past = subst (Past l) (sym (append-nil h)) s; turns = tt }
+run-keeps (e ∷ es) l h s =
+    let r = run-keeps es (after l e) (h ++ (last l e ∷ [])) (past-kept l h e s) in
+    record {
+      past = subst (Past (run (after l e) es)) (append-assoc h (last l e ∷ []) (history (after l e) es)) (r .past);
+      turns = (in-turn l h e s, r .turns);
+    }
+
+-- ---- the opening
+
+zero-entry : (n i : ℕ) → _≡_ {A = ℕ} (getD (replicate n 0) i 0) 0
+zero-entry zero i = refl
+zero-entry (suc n) zero = refl
+zero-entry (suc n) (suc i) = zero-entry n i
+
+same-arms : (b : Bool) → _≡_ {A = ℕ} (cond b 0 0) 0
+same-arms true = refl
+same-arms false = refl
+
+no-bank : (n a : ℕ) → bankOf (replicate n 0) a ≡ 0
+unfolding bankOf
+no-bank n a = rw (zero-entry n (a - 1)) (same-arms (eqb a 0))
+
+module _ (t : Ledger) (z : sizesFit t ≡ true) where
+  no-row : (cells : List ℕ) (n : ℕ) → lookup cells 0 n ≡ Nothing
+  no-row cells n = lookup-none cells 0 n (λ j l. absurd (omega (arith, existing-used cells 0)))
+
+  opening-past : Past (opened t) []
+  unfolding Past countsOf times journalFrom mandateOf collectionOf fresh
+  opening-past =
+      rw (opened-done t z)
+      (record {
+        fits = fresh-fit t z;
+        agrees =
+            record {
+              banks = no-bank creditorCount;
+              mandates = λ n. rw (no-row (t .mandates) n);
+              collections = λ n. rw (no-row (t .collections) n) tt;
+              creditor-figures = position-zeros creditorCount;
+              debtor-figures = position-zeros debtorCount;
+              bank-figures = position-zeros bankCount;
+              compensation = refl;
+              ended = λ c. rw (no-row (t .collections) c);
+              undone = λ c. rw (no-row (t .collections) c);
+              settled = λ c. rw (no-row (t .collections) c);
+            };
+        balanced =
+            record {
+              parties = rw (total-zeros creditorCount, total-zeros debtorCount);
+              banks = total-zeros bankCount;
+            };
+        bounded =
+            record {
+              creditors = λ n. rw (position-zeros creditorCount n) (omega arith);
+              debtors = λ n. rw (position-zeros debtorCount n) (omega arith);
+              banks = λ n. rw (position-zeros bankCount n) (omega arith);
+              cents = 0;
+              paid = refl;
+              cents-le = omega arith;
+            };
+      })
+
+-- ---- the claim, from the invariant at the end of the list
+
+ends-le : (x : Known Collection) → inKnown endsOf x ≤ 1
+ends-le unknown = omega arith
+ends-le (known k) = by-state (k .state)
+  where
+    by-state : (s : State) → endsOf s ≤ 1
+    by-state Presented = omega arith
+    by-state Rejected = omega arith
+    by-state (Settled day) = omega arith
+    by-state (Undone day by) = omega arith
+
+undos-le : (x : Known Collection) → inKnown undosOf x ≤ 1
+undos-le unknown = omega arith
+undos-le (known k) = by-state (k .state)
+  where
+    by-state : (s : State) → undosOf s ≤ 1
+    by-state Presented = omega arith
+    by-state Rejected = omega arith
+    by-state (Settled day) = omega arith
+    by-state (Undone day by) = omega arith
+
+-- the answers of a fit ledger
+module _ (l : Ledger) (f : fit l ≡ true) where
+  query-figure : (kind number : ℕ) → inQuery kind number ≡ true → query l kind number ≡ queries.Figure (figureOf l kind number)
+  unfolding query
+  query-figure kind number q = rw (f, q)
+
+  -- of the table that the queries of a kind ask
+  sum-answers : (kind count : ℕ) (table : List ℤ) → length table ≡ count → ((n : ℕ) → 1 ≤ n → n ≤ count → inQuery kind n ≡ true) → ((n : ℕ) → figureOf l kind n ≡ position table n) → sumOf l kind count ≡ total table
+  sum-answers kind count table e q g =
+      sumTo-same (λ n. answered (query l kind n)) (position table) count
+      (λ n a b. ap answered (query-figure kind n (q n a b)) ∙ g n)
+      ∙ ap (sumTo (position table)) (sym e)
+      ∙ sumTo-total table
+
+both : {a b : Bool} → a ≡ true → b ≡ true → a && b ≡ true
+both p q = rw (p, q)
+
+figures-agree : (l : Ledger) (j : Journal) (t : (Treatment → Bool) → ℕ → ℕ) (kind number : ℕ) → Agrees l j t → figureOf l kind number ≡ figureIn j kind number
+figures-agree l j t kind number g =
+    rw (g .creditor-figures number, g .debtor-figures number, g .bank-figures number, g .compensation)
+
+module _ (l : Ledger) (es : List Event) (r : RunKeeps l [] es) where
+  end : Sane (run l es) (journal (history l es)) (countsOf (history l es))
+  unfolding Past
+  end = r .past
+
+  pub kept : Kept l es
+  unfolding countsOf
+  kept =
+      let f = end .fits in
+      let z = fit-facts (run l es) f .sizes in
+      let lim : (n m : ℕ) → 1 ≤ n → n ≤ m → leb 1 n && leb n m ≡ true = λ n m a b. both (le-leb 1 n a) (le-leb n m b) in
+      let creditors = sum-answers (run l es) f 1 creditorCount (run l es .creditorPositions) (z .creditor-positions) (λ n a b. lim n creditorCount a b) (λ n. refl) in
+      let debtors = sum-answers (run l es) f 2 debtorCount (run l es .debtorPositions) (z .debtor-positions) (λ n a b. lim n debtorCount a b) (λ n. refl) in
+      let banks = sum-answers (run l es) f 3 bankCount (run l es .bankPositions) (z .bank-positions) (λ n a b. lim n bankCount a b) (λ n. refl) in
+      let paid : answered (query (run l es) 4 0) ≡ run l es .compensation = ap answered (query-figure (run l es) f 4 0 refl) in
+      record {
+        figures =
+            λ kind number q.
+            query-figure (run l es) f kind number q
+            ∙ ap queries.Figure (figures-agree (run l es) (journal (history l es)) (countsOf (history l es)) kind number (end .agrees));
+        parties = rw (creditors, debtors, paid) (end .balanced .parties);
+        banks = banks ∙ end .balanced .banks;
+        ended-once = λ c. rw (end .agrees .ended c) (ends-le (collectionOf (run l es) c));
+        undone-once = λ c. rw (end .agrees .undone c) (undos-le (collectionOf (run l es) c));
+        undone-in-time = λ before later x c way e. past-at InTurn (history l es) before later x (r .turns) e .undone c way;
+        collected-live = λ before later x p e. past-at InTurn (history l es) before later x (r .turns) e .collected p;
+      }
+
+-- ---- demand 3
+
+pub demand3 : Demand3
+demand3 t z es = kept (opened t) es (run-keeps es (opened t) [] (opening-past t z))
