@@ -11,6 +11,7 @@ use Rattle.tables.specs.Limits.{creditorCount, debtorCount, bankCount}
 use Rattle.tables.specs.Ledger.{Ledger}
 use Rattle.tables.specs.Fitness.{sizesFit}
 use Rattle.tables.specs.Opening.{opened}
+use Rattle.tables.specs.declared.Standing.the-variants.{Live}
 use Rattle.model.specs.declared.QueryAnswer.{QueryAnswer}
 use Rattle.model.specs.declared.QueryAnswer.the-variants.{Figure, Refused}
 use Rattle.model.specs.Actions.{Action, Presentation, Treatment, Way, actionOf}
@@ -18,7 +19,6 @@ use Rattle.model.specs.Actions.Action.{AddCreditor, AddMandate, ChangeMa
 use Rattle.model.specs.Actions.Treatment.{Settle, Reject, Undo}
 use Rattle.model.specs.Deadlines.{keptDue, inTime, lapsedFor}
 use Rattle.model.specs.Lookups.Known.{known}
-use Rattle.model.specs.Checks.{standsLive}
 use Rattle.model.specs.Step.{inQuery, query, run, Entry, history}
 use Rattle.model.specs.Journal.{NotedMandate, NotedCollection, journal, figureIn}
 
@@ -80,7 +80,7 @@ pub record UndoneInTime (before : List Entry) (c date : ℕ) (way : Way) : Type 
 pub record CollectedLive (before : List Entry) (p : Presentation) : Type 0 where
   pub mandate : NotedMandate
   pub is-noted : journal before .mandates (p .mandate) ≡ known mandate
-  pub is-live : standsLive (mandate .standing) ≡ true
+  pub is-live : mandate .standing ≡ Live
   pub not-lapsed : lapsedFor (keptDue (p .requested)) (mandate .presented) (mandate .signed) ≡ false
 
 -- ---- the claim about a list of events given to a ledger

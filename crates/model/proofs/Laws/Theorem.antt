@@ -24,6 +24,8 @@ use Rattle.tables.specs.Opening.{fresh, opened}
 use Rattle.tables.specs.declared.Found.the-variants.{Nothing}
 use Rattle.tables.specs.declared.Mandate.{Mandate}
 use Rattle.tables.specs.declared.Collection.{Collection}
+use Rattle.tables.specs.declared.Standing.{Standing}
+use Rattle.tables.specs.declared.Standing.the-variants.{Live, Closed, Cancelled}
 use Rattle.tables.specs.declared.State.{State}
 use Rattle.tables.specs.declared.State.the-variants.{Presented, Rejected, Settled, Undone}
 use Rattle.tables.proofs.Laws.Lookup.{lookup-none, existing-used}
@@ -157,6 +159,11 @@ pub record InTurn (before : List Entry) (x : Entry) : Type 0 where
 of-known : {A : Type 0} {x : Known A} {a : A} (f : A → Bool) → x ≡ known a → ofKnown x f ≡ true → f a ≡ true
 of-known {x = x} f e h = rw e at h
 
+stands-live : (s : Standing) → standsLive s ≡ true → s ≡ Live
+stands-live Live e = refl
+stands-live Closed e = absurd (never e refl)
+stands-live Cancelled e = absurd (never e refl)
+
 module _ (l : Ledger) (h : List Entry) (s : Past l h) (date : ℕ) where
   sane : Sane l (journal h) (countsOf h)
   unfolding Past
@@ -182,7 +189,7 @@ module _ (l : Ledger) (h : List Entry) (s : Past l h) (date : ℕ) where
       record {
         mandate = notedOf (t .mandate);
         is-noted = sym (sane .agrees .mandates (p .mandate)) ∙ ap notedKnown (t .is);
-        is-live = of-known (λ (m : Mandate). standsLive (m .standing)) (t .is) (q .live);
+        is-live = stands-live (t .mandate .standing) (of-known (λ (m : Mandate). standsLive (m .standing)) (t .is) (q .live));
         not-lapsed =
             not-true
             (of-known (λ (m : Mandate). not (lapsedFor (keptDue (p .requested)) (m .presented) (m .signed))) (t .is) (q .lapse));
