@@ -96,7 +96,7 @@ lineOf e = fieldsBytes widths (fieldsOf e) ++ (lineEnd ∷ [])
 -- ---- reading
 
 abbrev pub isDigit : ℕ → Bool
-isDigit b = leb zeroDigit b && leb b 57
+isDigit b = leb zeroDigit b && leb b (zeroDigit + 9)
 
 -- digits to the right edge, after those that came to v
 unfoldable pub readDigits : ℕ → List ℕ → FieldAnswer
