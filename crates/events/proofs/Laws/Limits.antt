@@ -141,11 +141,17 @@ module _ (e : Event) where
   unfolding checked
   checked-date p q = rw (p, q)
 
-  pub checked-field : within kinds (e .kind) ≡ true → inRange (e .date) ≡ true → fieldsFit e ≡ false → checked e ≡ Refused BadField
+  pub checked-field : within kinds (e .kind) ≡ true
+      → inRange (e .date) ≡ true
+      → fieldsFit e ≡ false
+      → checked e ≡ Refused BadField
   unfolding checked
   checked-field p q r = rw (p, q, r)
 
-  pub checked-within : within kinds (e .kind) ≡ true → inRange (e .date) ≡ true → fieldsFit e ≡ true → checked e ≡ Within
+  pub checked-within : within kinds (e .kind) ≡ true
+      → inRange (e .date) ≡ true
+      → fieldsFit e ≡ true
+      → checked e ≡ Within
   unfolding checked
   checked-within p q r = rw (p, q, r)
 

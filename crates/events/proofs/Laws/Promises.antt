@@ -27,7 +27,8 @@ length-columns e = length-fieldsBytes widths (fieldsOf e) refl
 
 pub line-has-its-length : LineHasItsLength
 unfolding lineOf
-line-has-its-length e = length-append (fieldsBytes widths (fieldsOf e)) (lineEnd ∷ []) ∙ ap (λ (n : ℕ). n + 1) (length-columns e)
+line-has-its-length e =
+    length-append (fieldsBytes widths (fieldsOf e)) (lineEnd ∷ []) ∙ ap (λ (n : ℕ). n + 1) (length-columns e)
 
 pub every-event-has-a-line : EveryEventHasALine
 unfolding lineOf readLine
@@ -48,7 +49,9 @@ record Read (l : List ℕ) (e : Event) : Type 0 where
   event : eventOf values ≡ e
   within : checked e ≡ Within
 
-cond-taken : (b : Bool) (x : LineAnswer) (e : Event) → cond b x (lines.Refused BadLine) ≡ lines.Taken e → (b ≡ true) × (x ≡ lines.Taken e)
+cond-taken : (b : Bool) (x : LineAnswer) (e : Event)
+    → cond b x (lines.Refused BadLine) ≡ lines.Taken e
+    → (b ≡ true) × (x ≡ lines.Taken e)
 cond-taken true x e t = (refl, t)
 cond-taken false x e t = let z : _≡_ {A = ℕ} 0 1 = cc in absurd (omega arith)
 
@@ -105,7 +108,10 @@ no-line-has-two-events e f p q t =
     cc
 
 -- the writer takes every event within its limits where the buffer has room
-written : (e : Event) (out : List ℕ) → checked e ≡ Within → lineLength ≤ length out → bytesAfter e out ≡ lineOf e ++ drop lineLength out
+written : (e : Event) (out : List ℕ)
+    → checked e ≡ Within
+    → lineLength ≤ length out
+    → bytesAfter e out ≡ lineOf e ++ drop lineLength out
 unfolding bytesAfter writeAnswer checked
 written e out p h = rw (le-leb lineLength (length out) h, p)
 

@@ -6,11 +6,6 @@ use mathlib.Core.Logic.{⊎-elim}
 use Prim.Native.Nat.{_≤_, _-_}
 use Rattle.events_cases.proofs.answered.Statement.{statement}
 use Rattle.events_cases.proofs.answered.Tie as tie
-use Rattle.events_cases.proofs.answered.Reads as reads
-use Rattle.events_cases.proofs.answered.Lts as lts
-use Rattle.events.proofs.limits.check.Reads as check-reads
-use Rattle.events_cases.proofs.checked.Reads as checked-reads
-use Rattle.events_cases.proofs.nth.Reads as nth-reads
 
 abbrev Inv-loop : tie.InvT-loop
 Inv-loop kind code number n₀ k₀ n k = (k ≤ 15360) × (n ≤ k)
@@ -18,39 +13,30 @@ Inv-loop kind code number n₀ k₀ n k = (k ≤ 15360) × (n ≤ k)
 abbrev μ-loop : tie.MeasureT-loop
 μ-loop kind code number n₀ k₀ n k = 15360 - k
 
--- src/main.rt:226:5
 loop-holds : tie.Need-loop-holds Inv-loop μ-loop
 loop-holds c = search needs
 
--- src/main.rt:227:34
 nth-requires : tie.Need-nth-requires Inv-loop μ-loop
 nth-requires c κs = search needs
 
--- src/main.rt:227:20
 check-requires : tie.Need-check-requires Inv-loop μ-loop
 check-requires c κs = search needs
 
--- src/main.rt:227:12
 checked-requires : tie.Need-checked-requires Inv-loop μ-loop
 checked-requires c κs = search needs
 
--- src/main.rt:228:13
 add-n : tie.Need-add-n Inv-loop μ-loop
 add-n c = search needs
 
--- src/main.rt:226:9
 add-k : tie.Need-add-k Inv-loop μ-loop
 add-k c = search needs
 
--- src/main.rt:226:5
 loop-less : tie.Need-loop-less Inv-loop μ-loop
 loop-less c = search needs
 
--- src/main.rt:226:5
 loop-again : tie.Need-loop-again Inv-loop μ-loop
 loop-again c = ⊎-elim (λ w. omega arith) (λ w. omega arith) (c .if1 .came)
 
--- src/main.rt:224:1
 returns : tie.Need-returns Inv-loop μ-loop
 returns c = search needs
 

@@ -4,10 +4,6 @@ use borrow.Author.Needs.{needs}
 use Prim.Native.Nat.{_≤_, _-_}
 use Rattle.events_cases.proofs.limits_of_kinds.Statement.{statement}
 use Rattle.events_cases.proofs.limits_of_kinds.Tie as tie
-use Rattle.events_cases.proofs.limits_of_kinds.Reads as reads
-use Rattle.events_cases.proofs.limits_of_kinds.Lts as lts
-use Rattle.events_cases.proofs.answered.Reads as answered-reads
-use Rattle.events_cases.proofs.put.Reads as put-reads
 
 abbrev Inv-loop : tie.InvT-loop
 Inv-loop k₀ k = k ≤ 72
@@ -15,47 +11,36 @@ Inv-loop k₀ k = k ≤ 72
 abbrev μ-loop : tie.MeasureT-loop
 μ-loop k₀ k = 72 - k
 
--- src/main.rt:236:5
 loop-holds : tie.Need-loop-holds Inv-loop μ-loop
 loop-holds c = search needs
 
--- src/main.rt:237:13
 answered-requires : tie.Need-answered-requires Inv-loop μ-loop
 answered-requires c κs = search needs
 
--- src/main.rt:237:9
 put-requires : tie.Need-put-requires Inv-loop μ-loop
 put-requires c κs = search needs
 
--- src/main.rt:238:13
 answered-requires-2 : tie.Need-answered-requires-2 Inv-loop μ-loop
 answered-requires-2 c κs = search needs
 
--- src/main.rt:238:9
 put-requires-2 : tie.Need-put-requires-2 Inv-loop μ-loop
 put-requires-2 c κs = search needs
 
--- src/main.rt:239:13
 answered-requires-3 : tie.Need-answered-requires-3 Inv-loop μ-loop
 answered-requires-3 c κs = search needs
 
--- src/main.rt:239:9
 put-requires-3 : tie.Need-put-requires-3 Inv-loop μ-loop
 put-requires-3 c κs = search needs
 
--- src/main.rt:236:9
 add-k : tie.Need-add-k Inv-loop μ-loop
 add-k c = search needs
 
--- src/main.rt:236:5
 loop-less : tie.Need-loop-less Inv-loop μ-loop
 loop-less c = search needs
 
--- src/main.rt:236:5
 loop-again : tie.Need-loop-again Inv-loop μ-loop
 loop-again c = search needs
 
--- src/main.rt:235:1
 returns : tie.Need-returns Inv-loop μ-loop
 returns c = search needs
 

@@ -8,11 +8,7 @@ use Rattle.events.specs.Limits.{fromTo, row}
 use borrow.Author.Needs.{needs}
 use Rattle.events.proofs.limits.row_at.Statement.{statement}
 use Rattle.events.proofs.limits.row_at.Tie as tie
-use Rattle.events.proofs.limits.row_at.Reads as reads
-use Rattle.events.proofs.limits.row_at.Lts as lts
-use Rattle.events.proofs.limits.cells_at.Reads as cells-at-reads
 
--- src/lib.rt:69:9
 abbrev made : Cells → Row
 made l =
     row (l .kind)
@@ -27,55 +23,42 @@ made l =
 cells-at-requires : tie.Need-cells-at-requires
 cells-at-requires c κs = search needs
 
--- src/lib.rt:75:29
 array-read-t8 : tie.Need-array-read-t8
 array-read-t8 c = search needs
 
--- src/lib.rt:75:41
 array-read-t11 : tie.Need-array-read-t11
 array-read-t11 c = search needs
 
--- src/lib.rt:76:31
 array-read-t15 : tie.Need-array-read-t15
 array-read-t15 c = search needs
 
--- src/lib.rt:76:43
 array-read-t18 : tie.Need-array-read-t18
 array-read-t18 c = search needs
 
--- src/lib.rt:77:25
 array-read-t22 : tie.Need-array-read-t22
 array-read-t22 c = search needs
 
--- src/lib.rt:77:37
 array-read-t25 : tie.Need-array-read-t25
 array-read-t25 c = search needs
 
--- src/lib.rt:78:25
 array-read-t29 : tie.Need-array-read-t29
 array-read-t29 c = search needs
 
--- src/lib.rt:78:37
 array-read-t32 : tie.Need-array-read-t32
 array-read-t32 c = search needs
 
--- src/lib.rt:79:25
 array-read-t36 : tie.Need-array-read-t36
 array-read-t36 c = search needs
 
--- src/lib.rt:79:37
 array-read-t39 : tie.Need-array-read-t39
 array-read-t39 c = search needs
 
--- src/lib.rt:80:30
 array-read-t43 : tie.Need-array-read-t43
 array-read-t43 c = search needs
 
--- src/lib.rt:80:42
 array-read-t46 : tie.Need-array-read-t46
 array-read-t46 c = search needs
 
--- src/lib.rt:65:1
 returns : tie.Need-returns
 returns c = ap made (c .before .before .cells-at .ensures)
 
