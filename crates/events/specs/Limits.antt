@@ -7,7 +7,7 @@ use lib.Dec.{leb, eqb}
 use Rattle.common.specs.Tests.{allOf}
 use Rattle.common.specs.Checks.{Check, check, judged}
 use Rattle.calendar.specs.Gregorian.{inRange}
-use Rattle.refusals.specs.declared.Refusal.{Refusal}
+use Rattle.refusals.specs.Refusals.{numberOf}
 use Rattle.refusals.specs.declared.Refusal.the-variants.{UnknownKind, BadDate, BadField}
 use Rattle.events.specs.declared.Event.{Event}
 use Rattle.events.specs.declared.limits.Range.{Range}
@@ -186,3 +186,9 @@ checks e =
 
 unfoldable pub checked : Event → Checked
 checked e = judged (checks e) Within
+
+-- ---- the number of an answer: 0, or the refusal's
+
+abbrev pub checkedNumber : Checked → ℕ
+checkedNumber Within = 0
+checkedNumber (Refused r) = numberOf r
