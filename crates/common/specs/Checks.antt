@@ -1,5 +1,5 @@
 -- An ordered rule is an ordered list of checks: the first that fails gives the answer.
--- To cite: the laws of proofs/Checks. Assumes nothing.
+-- Assumes nothing.
 use mathlib.Core.Bool.{Bool, cond}
 use mathlib.Core.List.{List, [], _∷_}
 

@@ -7,13 +7,14 @@ use lib.Dec.{leb, eqb}
 use Rattle.common.specs.Tests.{allOf}
 use Rattle.common.specs.Checks.{Check, check, judged}
 use Rattle.calendar.specs.Gregorian.{inRange}
-use Rattle.refusals.specs.declared.Refusal.{Refusal}
+use Rattle.refusals.specs.Refusals.{numberOf}
 use Rattle.refusals.specs.declared.Refusal.the-variants.{UnknownKind, BadDate, BadField}
 use Rattle.events.specs.declared.Event.{Event}
 use Rattle.events.specs.declared.limits.Range.{Range}
 use Rattle.events.specs.declared.limits.SecondDate.{SecondDate}
 use Rattle.events.specs.declared.limits.SecondDate.the-variants.{NoSecond, Dated, NotAfter}
 use Rattle.events.specs.declared.limits.Row.{Row}
+use Rattle.events.specs.declared.limits.Cells.{Cells}
 use Rattle.events.specs.declared.limits.RowAnswer.{RowAnswer}
 use Rattle.events.specs.declared.limits.RowAnswer.the-variants.{Found, NoRow}
 use Rattle.events.specs.declared.limits.Checked.{Checked}
@@ -131,6 +132,15 @@ table =
 abbrev pub noRow : Row
 noRow = row 0 unnamed unnamed unnamed unnamed unnamed unnamed NoSecond
 
+-- a row as the code's table has it
+abbrev pub cellsOf : Row → Cells
+cellsOf r = record {
+  kind = r .kind;
+  least = r .codes .low ∷ r .mandate .low ∷ r .a .low ∷ r .b .low ∷ r .c .low ∷ r .amount .low ∷ [];
+  most = r .codes .high ∷ r .mandate .high ∷ r .a .high ∷ r .b .high ∷ r .c .high ∷ r .amount .high ∷ [];
+  second = r .second;
+}
+
 -- the first of the rows that is of a kind and a code
 abbrev pub rowIn : List Row → ℕ → ℕ → RowAnswer
 rowIn [] kind code = NoRow
@@ -176,3 +186,9 @@ checks e =
 
 unfoldable pub checked : Event → Checked
 checked e = judged (checks e) Within
+
+-- ---- the number of an answer: 0, or the refusal's
+
+abbrev pub checkedNumber : Checked → ℕ
+checkedNumber Within = 0
+checkedNumber (Refused r) = numberOf r

@@ -6,6 +6,7 @@ use mathlib.Core.List.{List, [], _∷_, _++_}
 use lib.Dec.{leb, ltb, eqb}
 use lib.ListN.{length, take, drop, getD}
 use Rattle.common.specs.Checks.{check, judged}
+use Rattle.refusals.specs.Refusals.{numberOf}
 use Rattle.refusals.specs.declared.Refusal.the-variants.{BadLine, UnfitMemory}
 use Rattle.events.specs.declared.Event.{Event}
 use Rattle.events.specs.declared.limits.Checked.{Checked}
@@ -96,7 +97,7 @@ lineOf e = fieldsBytes widths (fieldsOf e) ++ (lineEnd ∷ [])
 -- ---- reading
 
 abbrev pub isDigit : ℕ → Bool
-isDigit b = leb zeroDigit b && leb b 57
+isDigit b = leb zeroDigit b && leb b (zeroDigit + 9)
 
 -- digits to the right edge, after those that came to v
 unfoldable pub readDigits : ℕ → List ℕ → FieldAnswer
@@ -164,3 +165,13 @@ bytesBy (writes.Refused r) e out = out
 -- the buffer after the call: the line and then its own bytes, or as it was
 unfoldable pub bytesAfter : Event → List ℕ → List ℕ
 bytesAfter e out = bytesBy (writeAnswer e out) e out
+
+-- ---- the number of an answer: 0, or the refusal's
+
+abbrev pub lineNumber : LineAnswer → ℕ
+lineNumber (lines.Taken e) = 0
+lineNumber (lines.Refused r) = numberOf r
+
+abbrev pub writeNumber : WriteAnswer → ℕ
+writeNumber writes.Written = 0
+writeNumber (writes.Refused r) = numberOf r

@@ -1,14 +1,16 @@
 -- What is promised of every event and every line: document 01, "The text line", and the buyer's demand 2.
 -- Each statement is proved in proofs/Laws/Promises. Assumes nothing.
 use mathlib.Core.Path.{_≡_}
-use mathlib.Core.List.{List, _++_}
+use mathlib.Core.Bool.{Bool, true, false, _||_}
+use mathlib.Core.List.{List, [], _∷_, _++_}
 use Prim.Native.Nat.{ℕ, _≤_}
+use lib.Dec.{eqb}
 use lib.ListN.{length, take, drop}
 use Rattle.events.specs.declared.Event.{Event}
 use Rattle.events.specs.declared.limits.Checked.the-variants.{Within}
 use Rattle.events.specs.declared.line.LineAnswer.the-variants.{Taken}
 use Rattle.events.specs.Limits.{checked}
-use Rattle.events.specs.Line.{lineLength, lineOf, readLine, bytesAfter}
+use Rattle.events.specs.Line.{lineLength, lineOf, readLine, writeAnswer, bytesAfter, lineNumber, writeNumber}
 
 -- the line of an event is as long as every line
 abbrev pub LineHasItsLength : Type 0
@@ -45,3 +47,15 @@ NoEventHasTwoLines = (l : List ℕ) (e : Event) → readLine l ≡ Taken e → l
 -- two events with one line are equal
 abbrev pub NoLineHasTwoEvents : Type 0
 NoLineHasTwoEvents = (e f : Event) → checked e ≡ Within → checked f ≡ Within → lineOf e ≡ lineOf f → e ≡ f
+
+-- n is one of the numbers
+abbrev pub among : List ℕ → ℕ → Bool
+among [] n = false
+among (m ∷ ms) n = eqb m n || among ms n
+
+-- document 01: "the reader gives 1, 3, 4, 5; the line writer 2, 3, 4, 5"; 0 is taken or written
+abbrev pub ReaderAnswers : Type 0
+ReaderAnswers = (l : List ℕ) → among (0 ∷ 1 ∷ 3 ∷ 4 ∷ 5 ∷ []) (lineNumber (readLine l)) ≡ true
+
+abbrev pub WriterAnswers : Type 0
+WriterAnswers = (e : Event) (out : List ℕ) → among (0 ∷ 2 ∷ 3 ∷ 4 ∷ 5 ∷ []) (writeNumber (writeAnswer e out)) ≡ true

@@ -2,7 +2,7 @@
 ghost use mathlib.Core.Path.{_≡_};
 ghost use Prim.Native.Nat.{_<_};
 ghost use lib.ListN.{length, getD};
-ghost use Rattle.events.specs.Limits.{within, table, noRow, rowOf, secondFits, rowFits, fieldsFit, checked};
+ghost use Rattle.events.specs.Limits.{within, table, noRow, cellsOf, rowOf, secondFits, rowFits, fieldsFit, checked};
 use crate::Event;
 use refusals::Refusal;
 
@@ -63,172 +63,94 @@ const KINDS: Range = Range {
     low: 1,
     high: LAST_KIND,
 };
-// A field that the kind and code do not name.
-const UNNAMED: Range = Range { low: 0, high: 0 };
 
-const CREDITOR: Range = Range {
-    low: 1,
-    high: CREDITORS,
-};
-
-const DEBTOR: Range = Range {
-    low: 1,
-    high: DEBTORS,
-};
-
-const BANK: Range = Range {
-    low: 1,
-    high: BANKS,
-};
-// A mandate or a collection.
-const NUMBER: Range = Range {
-    low: 1,
-    high: LAST_NUMBER,
-};
-
-const CENTS: Range = Range {
-    low: 1,
-    high: LAST_AMOUNT,
-};
-
-const RATE: Range = Range {
-    low: 0,
-    high: LAST_RATE,
-};
-
-const MANDATE_CODES: Range = Range { low: 0, high: 1 };
-
-const SEQUENCE_CODES: Range = Range { low: 0, high: 3 };
-
-const REFUND_CODES: Range = Range { low: 0, high: 1 };
-
-const CODE_0: Range = Range { low: 0, high: 0 };
-
-const CODE_1: Range = Range { low: 1, high: 1 };
+// A row in numbers: the least and the most that code, mandate, a, b, c and amount may be, in this order.
+struct Cells {
+    kind: u64,
+    least: [u64; 6],
+    most: [u64; 6],
+    second: SecondDate,
+}
 
 const ROWS: usize = 11;
 
-// A row for each kind and its codes, as in specs/Limits.
-const TABLE: [Row; ROWS] = [
-    // a creditor
-    Row {
+// The table of specs/Limits: a row for each kind and its codes. A field that is not named goes from 0 to 0.
+const TABLE: [Cells; ROWS] = [
+    // creditor
+    Cells {
         kind: 1,
-        codes: UNNAMED,
-        mandate: UNNAMED,
-        a: CREDITOR,
-        b: BANK,
-        c: UNNAMED,
-        amount: UNNAMED,
+        least: [0, 0, 1, 1, 0, 0],
+        most: [0, 0, CREDITORS, BANKS, 0, 0],
         second: SecondDate::NoSecond,
     },
-    // a mandate
-    Row {
+    // mandate
+    Cells {
         kind: 2,
-        codes: MANDATE_CODES,
-        mandate: NUMBER,
-        a: CREDITOR,
-        b: DEBTOR,
-        c: BANK,
-        amount: UNNAMED,
+        least: [0, 1, 1, 1, 1, 0],
+        most: [1, LAST_NUMBER, CREDITORS, DEBTORS, BANKS, 0],
         second: SecondDate::NotAfter,
     },
     // amend: a new debtor bank
-    Row {
+    Cells {
         kind: 3,
-        codes: CODE_0,
-        mandate: NUMBER,
-        a: UNNAMED,
-        b: UNNAMED,
-        c: BANK,
-        amount: UNNAMED,
+        least: [0, 1, 0, 0, 1, 0],
+        most: [0, LAST_NUMBER, 0, 0, BANKS, 0],
         second: SecondDate::NoSecond,
     },
     // amend: a new creditor
-    Row {
+    Cells {
         kind: 3,
-        codes: CODE_1,
-        mandate: NUMBER,
-        a: CREDITOR,
-        b: UNNAMED,
-        c: UNNAMED,
-        amount: UNNAMED,
+        least: [1, 1, 1, 0, 0, 0],
+        most: [1, LAST_NUMBER, CREDITORS, 0, 0, 0],
         second: SecondDate::NoSecond,
     },
     // cancel
-    Row {
+    Cells {
         kind: 4,
-        codes: UNNAMED,
-        mandate: NUMBER,
-        a: UNNAMED,
-        b: UNNAMED,
-        c: UNNAMED,
-        amount: UNNAMED,
+        least: [0, 1, 0, 0, 0, 0],
+        most: [0, LAST_NUMBER, 0, 0, 0, 0],
         second: SecondDate::NoSecond,
     },
     // collect
-    Row {
+    Cells {
         kind: 5,
-        codes: SEQUENCE_CODES,
-        mandate: NUMBER,
-        a: NUMBER,
-        b: UNNAMED,
-        c: UNNAMED,
-        amount: CENTS,
+        least: [0, 1, 1, 0, 0, 1],
+        most: [3, LAST_NUMBER, LAST_NUMBER, 0, 0, LAST_AMOUNT],
         second: SecondDate::Dated,
     },
     // settle
-    Row {
+    Cells {
         kind: 6,
-        codes: UNNAMED,
-        mandate: UNNAMED,
-        a: NUMBER,
-        b: UNNAMED,
-        c: UNNAMED,
-        amount: UNNAMED,
+        least: [0, 0, 1, 0, 0, 0],
+        most: [0, 0, LAST_NUMBER, 0, 0, 0],
         second: SecondDate::NoSecond,
     },
     // reject
-    Row {
+    Cells {
         kind: 7,
-        codes: UNNAMED,
-        mandate: UNNAMED,
-        a: NUMBER,
-        b: UNNAMED,
-        c: UNNAMED,
-        amount: UNNAMED,
+        least: [0, 0, 1, 0, 0, 0],
+        most: [0, 0, LAST_NUMBER, 0, 0, 0],
         second: SecondDate::NoSecond,
     },
     // return
-    Row {
+    Cells {
         kind: 8,
-        codes: UNNAMED,
-        mandate: UNNAMED,
-        a: NUMBER,
-        b: UNNAMED,
-        c: UNNAMED,
-        amount: UNNAMED,
+        least: [0, 0, 1, 0, 0, 0],
+        most: [0, 0, LAST_NUMBER, 0, 0, 0],
         second: SecondDate::NoSecond,
     },
     // refund
-    Row {
+    Cells {
         kind: 9,
-        codes: REFUND_CODES,
-        mandate: UNNAMED,
-        a: NUMBER,
-        b: RATE,
-        c: UNNAMED,
-        amount: UNNAMED,
+        least: [0, 0, 1, 0, 0, 0],
+        most: [1, 0, LAST_NUMBER, LAST_RATE, 0, 0],
         second: SecondDate::NoSecond,
     },
     // reversal
-    Row {
+    Cells {
         kind: 10,
-        codes: UNNAMED,
-        mandate: UNNAMED,
-        a: NUMBER,
-        b: UNNAMED,
-        c: UNNAMED,
-        amount: UNNAMED,
+        least: [0, 0, 1, 0, 0, 0],
+        most: [0, 0, LAST_NUMBER, 0, 0, 0],
         second: SecondDate::NoSecond,
     },
 ];
@@ -240,11 +162,50 @@ fn within(r: Range, x: u64) -> bool
     (r.low <= x) & (x <= r.high)
 }
 
+fn cells_at(i: usize) -> Cells
+    requires { ⌜ i < length table ⌝ }
+    ensures { λ r. ⌜ r ≡ cellsOf (getD table i noRow) ⌝ }
+{
+    TABLE[i]
+}
+
+// Row i of the table.
 fn row_at(i: usize) -> Row
     requires { ⌜ i < length table ⌝ }
     ensures { λ r. ⌜ r ≡ getD table i noRow ⌝ }
 {
-    TABLE[i]
+    let cells = cells_at(i);
+    let l = cells.least;
+    let m = cells.most;
+    let second = cells.second;
+    Row {
+        kind: cells.kind,
+        codes: Range {
+            low: l[0],
+            high: m[0],
+        },
+        mandate: Range {
+            low: l[1],
+            high: m[1],
+        },
+        a: Range {
+            low: l[2],
+            high: m[2],
+        },
+        b: Range {
+            low: l[3],
+            high: m[3],
+        },
+        c: Range {
+            low: l[4],
+            high: m[4],
+        },
+        amount: Range {
+            low: l[5],
+            high: m[5],
+        },
+        second,
+    }
 }
 
 // The limits of the events of a kind with a code.

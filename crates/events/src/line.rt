@@ -1,8 +1,7 @@
 // The text line of an event: specs/Line.
 ghost use mathlib.Core.Path.{_≡_};
-ghost use mathlib.Core.Bool.{true};
 ghost use mathlib.Core.List.{_++_};
-ghost use Prim.Native.Nat.{_+_, _^_, _≤_, _<_};
+ghost use Prim.Native.Nat.{_+_, _≤_};
 ghost use lib.ListN.{length, take, drop};
 ghost use Rattle.events.specs.Line.{lineLength, widths, isDigit, readField, readNumber, readDigits, readFields, taken, answerOf, readLine, lastDigit, fieldBytes, pasted, lineOf, writeAnswer, bytesAfter};
 ghost use Rattle.events.specs.Limits.{checked};

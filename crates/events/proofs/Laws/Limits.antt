@@ -3,14 +3,14 @@
 -- `fields-narrow` (every field fits its column). Nothing but `unfolding table` looks at the rows. Assumes nothing.
 use mathlib.Core.Path.{_≡_, refl, sym, _∙_, ap, subst}
 use mathlib.Core.Bool.{Bool, true, false, cond, _&&_}
-use mathlib.Core.List.{List, [], _∷_}
+use mathlib.Core.List.{List, [], _∷_, map}
 use mathlib.Core.Logic.{_⊎_, inl, inr, ⊎-elim}
 use Prim.Native.Nat.{ℕ, zero, suc, _+_, _≤_, _<_}
 use native.Mathlib.Omega.{arith}
 use lib.Dec.{leb, eqb}
 use lib.ListN.{length, drop, getD, drop-of-length-le}
 use lib.Seq.{drop-cons}
-use native.Mathlib.Nat.{le-antisymm, eq-or-lt-of-le}
+use native.Mathlib.Nat.{le-antisymm, eq-or-lt-of-le, not-suc-le-zero, le-of-suc-le-suc}
 use native.Mathlib.Numerals.{add-one}
 use borrow.Author.Tests.{leb-true, le-leb, eqb-true}
 use Rattle.common.proofs.Tests.{never, and-halves, and-true}
@@ -45,6 +45,14 @@ pub between-within : (r : Range) (x : ℕ) → Between r x → within r x ≡ tr
 between-within r x b = and-true (le-leb _ _ (b .from)) (le-leb _ _ (b .to))
 
 -- ---- the table
+
+-- entry i of a list whose entries are all changed by f
+pub getD-map : {A B : Type 0} (f : A → B) (l : List A) (i : ℕ) (a : A) (b : B)
+    → i < length l
+    → getD (map f l) i b ≡ f (getD l i a)
+getD-map f [] i a b h = absurd (not-suc-le-zero h)
+getD-map f (x ∷ l) zero a b h = refl
+getD-map f (x ∷ l) (suc i) a b h = getD-map f l i a b (le-of-suc-le-suc h)
 
 -- whether a row is of a kind and a code
 abbrev pub isOf : ℕ → ℕ → Row → Bool
@@ -133,11 +141,17 @@ module _ (e : Event) where
   unfolding checked
   checked-date p q = rw (p, q)
 
-  pub checked-field : within kinds (e .kind) ≡ true → inRange (e .date) ≡ true → fieldsFit e ≡ false → checked e ≡ Refused BadField
+  pub checked-field : within kinds (e .kind) ≡ true
+      → inRange (e .date) ≡ true
+      → fieldsFit e ≡ false
+      → checked e ≡ Refused BadField
   unfolding checked
   checked-field p q r = rw (p, q, r)
 
-  pub checked-within : within kinds (e .kind) ≡ true → inRange (e .date) ≡ true → fieldsFit e ≡ true → checked e ≡ Within
+  pub checked-within : within kinds (e .kind) ≡ true
+      → inRange (e .date) ≡ true
+      → fieldsFit e ≡ true
+      → checked e ≡ Within
   unfolding checked
   checked-within p q r = rw (p, q, r)
 

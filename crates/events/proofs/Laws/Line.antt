@@ -264,7 +264,11 @@ reads-digits b v bs z e =
           ∙ ap (λ (n : ℕ). padded n v) (omega arith)
           ∙ readDigits-padded 1 (0 * 10 + (b - zeroDigit)) v bs s (q .1)
           ∙ ap (λ (l : List ℕ). l ++ bs) (padded-digit b s (q .0));
-      narrow = subst (λ (n : ℕ). v < 10 ^ n) (omega arith) (readDigits-narrow 1 (0 * 10 + (b - zeroDigit)) v bs (omega arith) (q .1));
+      narrow =
+          subst
+          (λ (n : ℕ). v < 10 ^ n)
+          (omega arith)
+          (readDigits-narrow 1 (0 * 10 + (b - zeroDigit)) v bs (omega arith) (q .1));
     }
 
 readNumber-reads : (b v : ℕ) (bs : List ℕ) → readNumber (b ∷ bs) ≡ Value v → Reads (b ∷ bs) v
@@ -554,7 +558,14 @@ pub still-store : (at i b : ℕ) (s out : List ℕ)
     → i < length out
     → still at i s (set out i b) ≡ still at (i + 1) (s ++ (b ∷ [])) out
 still-store at i b s out l h =
-    rw (take-set-le at out i b l, drop-cons (set out i b) i 0 (lt-length-set out i b h), getD-set-same out i b 0 h, drop-set-lt (suc i) out i b (omega arith), add-one, append-assoc)
+    rw (
+      take-set-le at out i b l,
+      drop-cons (set out i b) i 0 (lt-length-set out i b h),
+      getD-set-same out i b 0 h,
+      drop-set-lt (suc i) out i b (omega arith),
+      add-one,
+      append-assoc,
+    )
 
 -- at the field's left edge nothing is to come
 pub still-none : (at i v : ℕ) (out : List ℕ) → i ≡ at → still at i (padded (i - at) v) out ≡ out
@@ -640,17 +651,30 @@ front-field s out now next n w v f p =
     }
 
 pub front-length : (s out now : List ℕ) (n : ℕ) → Front s n out now → n ≤ length out → length now ≡ length out
-front-length s out now n f h = ap length (f .bytes) ∙ length-append s (drop n out) ∙ omega (arith, f .long, length-drop n out)
+front-length s out now n f h =
+    ap length (f .bytes) ∙ length-append s (drop n out) ∙ omega (arith, f .long, length-drop n out)
 
 -- the byte that ends the line
-pub front-end : (s out now : List ℕ) (n b : ℕ) → Front s n out now → n < length out → set now n b ≡ s ++ (b ∷ drop (n + 1) out)
+pub front-end : (s out now : List ℕ) (n b : ℕ)
+    → Front s n out now
+    → n < length out
+    → set now n b ≡ s ++ (b ∷ drop (n + 1) out)
 front-end s out now n b f h =
     let d : now ≡ s ++ (getD out n 0 ∷ drop (n + 1) out) = f .bytes ∙ rw (add-one, drop-cons out n 0 h) in
     ap (λ (l : List ℕ). set l n b) d ∙ set-at s (getD out n 0) (drop (n + 1) out) b n (f .long)
 
 -- the nine fields and the byte that ends them are the line
 pub lineOf-front : (e : Event) (r : List ℕ)
-    → (((((((fieldBytes 2 (e .kind) ++ fieldBytes 9 (e .date)) ++ fieldBytes 10 (e .mandate)) ++ fieldBytes 10 (e .a)) ++ fieldBytes 10 (e .b)) ++ fieldBytes 10 (e .c)) ++ fieldBytes 12 (e .amount)) ++ fieldBytes 9 (e .second)) ++ fieldBytes 2 (e .code) ++ (lineEnd ∷ r)
+    → fieldBytes 2 (e .kind)
+    ++ fieldBytes 9 (e .date)
+    ++ fieldBytes 10 (e .mandate)
+    ++ fieldBytes 10 (e .a)
+    ++ fieldBytes 10 (e .b)
+    ++ fieldBytes 10 (e .c)
+    ++ fieldBytes 12 (e .amount)
+    ++ fieldBytes 9 (e .second)
+    ++ fieldBytes 2 (e .code)
+    ++ (lineEnd ∷ r)
     ≡ lineOf e ++ r
 unfolding lineOf
 lineOf-front e r = simp (append-assoc, append-nil)

@@ -4,21 +4,22 @@ use mathlib.Core.Bool.{Bool, true, false, cond, _&&_}
 use mathlib.Core.List.{List, [], _∷_, _++_}
 use Prim.Native.Nat.{ℕ, suc, _+_, _≤_}
 use native.Mathlib.Omega.{arith}
-use lib.Dec.{eqb}
+use lib.Dec.{leb, eqb}
 use lib.ListN.{length, take, drop, getD, length-append, take-append-drop, drop-of-length-le}
 use lib.Seq.{drop-cons, take-at, getD-at}
 use borrow.Author.Tests.{le-leb, eqb-true, eq-eqb}
 use Rattle.common.proofs.Tests.{and-halves, and-true}
-use Rattle.refusals.specs.declared.Refusal.the-variants.{BadLine}
+use Rattle.calendar.specs.Gregorian.{inRange}
+use Rattle.refusals.specs.declared.Refusal.the-variants.{BadLine, UnfitMemory, UnknownKind, BadDate, BadField}
 use Rattle.events.specs.declared.Event.{Event}
 use Rattle.events.specs.declared.limits.Checked.{Checked}
 use Rattle.events.specs.declared.limits.Checked.the-variants.{Within, Refused}
 use Rattle.events.specs.declared.line.LineAnswer.{LineAnswer}
 use Rattle.events.specs.declared.line.LineAnswer.the-variants as lines
 use Rattle.events.specs.declared.line.WriteAnswer.the-variants as writes
-use Rattle.events.specs.Limits.{checked}
-use Rattle.events.specs.Line.{widths, fieldsOf, eventOf, columns, lineLength, lineEnd, fieldsBytes, lineOf, Fields, Values, Unreadable, readFields, answerOf, taken, readLine, writeAnswer, bytesAfter}
-use Rattle.events.specs.Promises.{LineHasItsLength, ReadsWhatWasWritten, WritesWhatWasRead, OnlyWithinIsTaken, EveryEventHasALine, NoEventHasTwoLines, NoLineHasTwoEvents}
+use Rattle.events.specs.Limits.{within, kinds, fieldsFit, checked}
+use Rattle.events.specs.Line.{widths, fieldsOf, eventOf, columns, lineLength, lineEnd, fieldsBytes, lineOf, Fields, Values, Unreadable, readFields, answerOf, taken, readLine, writeAnswer, bytesAfter, lineNumber, writeNumber, writtenOf}
+use Rattle.events.specs.Promises.{LineHasItsLength, ReadsWhatWasWritten, WritesWhatWasRead, OnlyWithinIsTaken, EveryEventHasALine, NoEventHasTwoLines, NoLineHasTwoEvents, among, ReaderAnswers, WriterAnswers}
 use Rattle.events.proofs.Laws.Limits.{checked-facts}
 use Rattle.events.proofs.Laws.Line.{length-fieldsBytes, readFields-fieldsBytes, fieldsBytes-readFields, narrow-fields, fieldsOf-eventOf}
 
@@ -27,7 +28,8 @@ length-columns e = length-fieldsBytes widths (fieldsOf e) refl
 
 pub line-has-its-length : LineHasItsLength
 unfolding lineOf
-line-has-its-length e = length-append (fieldsBytes widths (fieldsOf e)) (lineEnd ∷ []) ∙ ap (λ (n : ℕ). n + 1) (length-columns e)
+line-has-its-length e =
+    length-append (fieldsBytes widths (fieldsOf e)) (lineEnd ∷ []) ∙ ap (λ (n : ℕ). n + 1) (length-columns e)
 
 pub every-event-has-a-line : EveryEventHasALine
 unfolding lineOf readLine
@@ -48,7 +50,9 @@ record Read (l : List ℕ) (e : Event) : Type 0 where
   event : eventOf values ≡ e
   within : checked e ≡ Within
 
-cond-taken : (b : Bool) (x : LineAnswer) (e : Event) → cond b x (lines.Refused BadLine) ≡ lines.Taken e → (b ≡ true) × (x ≡ lines.Taken e)
+cond-taken : (b : Bool) (x : LineAnswer) (e : Event)
+    → cond b x (lines.Refused BadLine) ≡ lines.Taken e
+    → (b ≡ true) × (x ≡ lines.Taken e)
 cond-taken true x e t = (refl, t)
 cond-taken false x e t = let z : _≡_ {A = ℕ} 0 1 = cc in absurd (omega arith)
 
@@ -105,7 +109,10 @@ no-line-has-two-events e f p q t =
     cc
 
 -- the writer takes every event within its limits where the buffer has room
-written : (e : Event) (out : List ℕ) → checked e ≡ Within → lineLength ≤ length out → bytesAfter e out ≡ lineOf e ++ drop lineLength out
+written : (e : Event) (out : List ℕ)
+    → checked e ≡ Within
+    → lineLength ≤ length out
+    → bytesAfter e out ≡ lineOf e ++ drop lineLength out
 unfolding bytesAfter writeAnswer checked
 written e out p h = rw (le-leb lineLength (length out) h, p)
 
@@ -117,3 +124,50 @@ pub writes-what-was-read : WritesWhatWasRead
 writes-what-was-read l e out t h =
     written e out (only-within-is-taken l e t) h
     ∙ ap (λ (s : List ℕ). s ++ drop lineLength out) (sym (no-event-has-two-lines l e t))
+
+-- ---- the numbers of the answers
+
+-- the answer of a line whose event fails one of the checks, or none
+event-number : (e : Event) (kind date field : Bool)
+    → among (0 ∷ 1 ∷ 3 ∷ 4 ∷ 5 ∷ [])
+    (lineNumber (answerOf e (cond kind (cond date (cond field Within (Refused BadField)) (Refused BadDate)) (Refused UnknownKind))))
+    ≡ true
+event-number e false date field = refl
+event-number e true false field = refl
+event-number e true true false = refl
+event-number e true true true = refl
+
+taken-number : (f : Fields) → among (0 ∷ 1 ∷ 3 ∷ 4 ∷ 5 ∷ []) (lineNumber (taken f)) ≡ true
+unfolding checked
+taken-number Unreadable = refl
+taken-number (Values vs) =
+    let e = eventOf vs in
+    event-number e (within kinds (e .kind)) (inRange (e .date)) (fieldsFit e)
+
+line-number : (b : Bool) (f : Fields)
+    → among (0 ∷ 1 ∷ 3 ∷ 4 ∷ 5 ∷ []) (lineNumber (cond b (taken f) (lines.Refused BadLine))) ≡ true
+line-number false f = refl
+line-number true f = taken-number f
+
+pub reader-answers : ReaderAnswers
+unfolding readLine
+reader-answers l = line-number (eqb (length l) lineLength && eqb (getD l columns 0) lineEnd) (readFields widths 0 l)
+
+write-number : (room kind date field : Bool)
+    → among (0 ∷ 2 ∷ 3 ∷ 4 ∷ 5 ∷ [])
+    (writeNumber
+    (writtenOf
+    (cond room
+    (cond kind (cond date (cond field Within (Refused BadField)) (Refused BadDate)) (Refused UnknownKind))
+    (Refused UnfitMemory))))
+    ≡ true
+write-number false kind date field = refl
+write-number true false date field = refl
+write-number true true false field = refl
+write-number true true true false = refl
+write-number true true true true = refl
+
+pub writer-answers : WriterAnswers
+unfolding writeAnswer
+writer-answers e out =
+    write-number (leb lineLength (length out)) (within kinds (e .kind)) (inRange (e .date)) (fieldsFit e)

@@ -17,7 +17,11 @@ in-range-requires : tie.Need-in-range-requires
 in-range-requires c κs = search needs
 
 returns-2 : tie.Need-returns-2
-returns-2 c = sym (checked-date _ (sym (c .before .before .before .within .ensures) ∙ not-false (c .before .before .if1 .left)) (sym (c .before .in-range .ensures) ∙ not-true (c .if2 .taken)))
+returns-2 c =
+    sym
+    (checked-date _
+    (sym (c .before .before .before .within .ensures) ∙ not-false (c .before .before .if1 .left))
+    (sym (c .before .in-range .ensures) ∙ not-true (c .if2 .taken)))
 
 fields-fit-requires : tie.Need-fields-fit-requires
 fields-fit-requires c κs = search needs

@@ -23,7 +23,8 @@ row-fits-requires c κs = search needs
 
 returns-2 : tie.Need-returns-2
 unfolding fieldsFit
-returns-2 c = rw (← c .before .before .before .before .row-of .ensures, c .before .before .row .given .1) (c .row-fits .ensures)
+returns-2 c =
+    rw (← c .before .before .before .before .row-of .ensures, c .before .before .row .given .1) (c .row-fits .ensures)
 
 pub fields-fit-spec : {M : Type 1} → statement M
 fields-fit-spec =

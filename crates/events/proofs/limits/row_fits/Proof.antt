@@ -23,7 +23,15 @@ second-fits-requires c κs = search needs
 
 returns : tie.Need-returns
 unfolding rowFits
-returns c = rw (c .before .before .before .before .before .within .ensures, c .before .before .before .before .within2 .ensures, c .before .before .before .within3 .ensures, c .before .before .within4 .ensures, c .before .within5 .ensures, c .second-fits .ensures)
+returns c =
+    rw (
+      c .before .before .before .before .before .within .ensures,
+      c .before .before .before .before .within2 .ensures,
+      c .before .before .before .within3 .ensures,
+      c .before .before .within4 .ensures,
+      c .before .within5 .ensures,
+      c .second-fits .ensures,
+    )
 
 pub row-fits-spec : {M : Type 1} → statement M
 row-fits-spec =

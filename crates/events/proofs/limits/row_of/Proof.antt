@@ -30,7 +30,10 @@ within-requires c κs = search needs
 returns : tie.Need-returns Inv-loop μ-loop
 unfolding table
 returns c =
-    sym (rowIn-hit table _ _ _ _ (c .before .before .before .before .before .loop-test .taken) (c .before .before .before .before .row-at .ensures) (rw (c .before .within .ensures) at (c .if1 .taken)))
+    sym
+    (rowIn-hit table _ _ _ _ (c .before .before .before .before .before .loop-test .taken)
+    (c .before .before .before .before .row-at .ensures)
+    (rw (c .before .within .ensures) at (c .if1 .taken)))
     ∙ c .before .before .before .before .before .before .loop .inv .1
 
 add-i : tie.Need-add-i Inv-loop μ-loop
@@ -45,7 +48,10 @@ loop-again : tie.Need-loop-again Inv-loop μ-loop
 unfolding table
 loop-again c = (
   search needs,
-  sym (rowIn-miss table _ _ _ _ (c .before .before .before .before .before .loop-test .taken) (c .before .before .before .before .row-at .ensures) (rw (c .before .within .ensures) at (c .if1 .left)))
+  sym
+      (rowIn-miss table _ _ _ _ (c .before .before .before .before .before .loop-test .taken)
+      (c .before .before .before .before .row-at .ensures)
+      (rw (c .before .within .ensures) at (c .if1 .left)))
       ∙ c .before .before .before .before .before .before .loop .inv .1,
 )
 

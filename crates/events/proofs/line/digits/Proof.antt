@@ -29,7 +29,10 @@ room c = narrow-room _ _ (c .before .before .before .loop .inv .1) (omega arith)
 
 -- the byte at i, a digit
 abbrev byte : tie.Else1 Inv-loop μ-loop → ℕ
-byte c = getD (c .before .before .before .before .before .before .args .field .now) (c .before .before .before .before .loop .i) 0
+byte c =
+    getD
+    (c .before .before .before .before .before .before .args .field .now)
+    (c .before .before .before .before .loop .i) 0
 
 digit : (c : tie.Else1 Inv-loop μ-loop) → isDigit (byte c) ≡ true
 digit c = sym (c .before .is-digit .ensures) ∙ not-false (c .if1 .left)

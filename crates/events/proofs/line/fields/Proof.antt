@@ -2,6 +2,7 @@
 -- still to be read are all that is read of it. Assumes nothing.
 use Rattle.events.proofs.Laws.Line.{after, after-value, after-none}
 use Rattle.events.specs.Line.{widths, readFields, taken}
+use lib.ListN.{drop}
 use lib.Dec.{lit≤}
 use native.Mathlib.Omega.{arith}
 use Prim.Native.Nat.{ℕ}
@@ -11,111 +12,156 @@ use borrow.Author.Needs.{needs}
 use Rattle.events.proofs.line.fields.Statement.{statement}
 use Rattle.events.proofs.line.fields.Tie as tie
 
+abbrev start1 : tie.After-known-told → tie.Start
+start1 c = c .before .before .before .before .before
+
 abbrev line1 : tie.After-known-told → List ℕ
-line1 c = c .before .before .before .before .before .args .line .now
+line1 c = start1 c .args .line .now
 
 abbrev values1 : tie.After-known-told → List ℕ
 values1 c = c .before .kind .given .0 .0 ∷ []
 
-after1 : (c : tie.After-known-told) → readFields widths 0 (line1 c) ≡ after (values1 c) (readFields (9 ∷ 10 ∷ 10 ∷ 10 ∷ 10 ∷ 12 ∷ 9 ∷ 2 ∷ []) 2 (line1 c))
+after1 : (c : tie.After-known-told)
+    → readFields widths 0 (line1 c) ≡ after (values1 c) (readFields (drop 1 widths) 2 (line1 c))
 after1 c =
-    after-value [] (9 ∷ 10 ∷ 10 ∷ 10 ∷ 10 ∷ 12 ∷ 9 ∷ 2 ∷ []) (line1 c) 0 2 (c .before .kind .given .0 .0)
+    after-value [] (drop 1 widths) (line1 c) 0 2
+    (c .before .kind .given .0 .0)
     (sym (c .before .before .before .field .ensures) ∙ c .before .kind .given .1)
 
+abbrev start2 : tie.After-known-told2 → tie.Start
+start2 c = start1 (c .before .before .before .before)
+
 abbrev line2 : tie.After-known-told2 → List ℕ
-line2 c = line1 (c .before .before .before .before)
+line2 c = start2 c .args .line .now
 
 abbrev values2 : tie.After-known-told2 → List ℕ
 values2 c = values1 (c .before .before .before .before) ++ (c .before .date .given .0 .0 ∷ [])
 
-after2 : (c : tie.After-known-told2) → readFields widths 0 (line2 c) ≡ after (values2 c) (readFields (10 ∷ 10 ∷ 10 ∷ 10 ∷ 12 ∷ 9 ∷ 2 ∷ []) 11 (line2 c))
+after2 : (c : tie.After-known-told2)
+    → readFields widths 0 (line2 c) ≡ after (values2 c) (readFields (drop 2 widths) 11 (line2 c))
 after2 c =
     after1 (c .before .before .before .before)
-    ∙ after-value (values1 (c .before .before .before .before)) (10 ∷ 10 ∷ 10 ∷ 10 ∷ 12 ∷ 9 ∷ 2 ∷ []) (line2 c) 2 9 (c .before .date .given .0 .0)
+    ∙ after-value (values1 (c .before .before .before .before)) (drop 2 widths) (line2 c) 2 9
+    (c .before .date .given .0 .0)
     (sym (c .before .before .before .field2 .ensures) ∙ c .before .date .given .1)
 
+abbrev start3 : tie.After-known-told3 → tie.Start
+start3 c = start2 (c .before .before .before .before)
+
 abbrev line3 : tie.After-known-told3 → List ℕ
-line3 c = line2 (c .before .before .before .before)
+line3 c = start3 c .args .line .now
 
 abbrev values3 : tie.After-known-told3 → List ℕ
 values3 c = values2 (c .before .before .before .before) ++ (c .before .mandate .given .0 .0 ∷ [])
 
-after3 : (c : tie.After-known-told3) → readFields widths 0 (line3 c) ≡ after (values3 c) (readFields (10 ∷ 10 ∷ 10 ∷ 12 ∷ 9 ∷ 2 ∷ []) 21 (line3 c))
+after3 : (c : tie.After-known-told3)
+    → readFields widths 0 (line3 c) ≡ after (values3 c) (readFields (drop 3 widths) 21 (line3 c))
 after3 c =
     after2 (c .before .before .before .before)
-    ∙ after-value (values2 (c .before .before .before .before)) (10 ∷ 10 ∷ 10 ∷ 12 ∷ 9 ∷ 2 ∷ []) (line3 c) 11 10 (c .before .mandate .given .0 .0)
+    ∙ after-value (values2 (c .before .before .before .before)) (drop 3 widths) (line3 c) 11 10
+    (c .before .mandate .given .0 .0)
     (sym (c .before .before .before .field3 .ensures) ∙ c .before .mandate .given .1)
 
+abbrev start4 : tie.After-known-told4 → tie.Start
+start4 c = start3 (c .before .before .before .before)
+
 abbrev line4 : tie.After-known-told4 → List ℕ
-line4 c = line3 (c .before .before .before .before)
+line4 c = start4 c .args .line .now
 
 abbrev values4 : tie.After-known-told4 → List ℕ
 values4 c = values3 (c .before .before .before .before) ++ (c .before .a .given .0 .0 ∷ [])
 
-after4 : (c : tie.After-known-told4) → readFields widths 0 (line4 c) ≡ after (values4 c) (readFields (10 ∷ 10 ∷ 12 ∷ 9 ∷ 2 ∷ []) 31 (line4 c))
+after4 : (c : tie.After-known-told4)
+    → readFields widths 0 (line4 c) ≡ after (values4 c) (readFields (drop 4 widths) 31 (line4 c))
 after4 c =
     after3 (c .before .before .before .before)
-    ∙ after-value (values3 (c .before .before .before .before)) (10 ∷ 10 ∷ 12 ∷ 9 ∷ 2 ∷ []) (line4 c) 21 10 (c .before .a .given .0 .0)
+    ∙ after-value (values3 (c .before .before .before .before)) (drop 4 widths) (line4 c) 21 10
+    (c .before .a .given .0 .0)
     (sym (c .before .before .before .field4 .ensures) ∙ c .before .a .given .1)
 
+abbrev start5 : tie.After-known-told5 → tie.Start
+start5 c = start4 (c .before .before .before .before)
+
 abbrev line5 : tie.After-known-told5 → List ℕ
-line5 c = line4 (c .before .before .before .before)
+line5 c = start5 c .args .line .now
 
 abbrev values5 : tie.After-known-told5 → List ℕ
 values5 c = values4 (c .before .before .before .before) ++ (c .before .b .given .0 .0 ∷ [])
 
-after5 : (c : tie.After-known-told5) → readFields widths 0 (line5 c) ≡ after (values5 c) (readFields (10 ∷ 12 ∷ 9 ∷ 2 ∷ []) 41 (line5 c))
+after5 : (c : tie.After-known-told5)
+    → readFields widths 0 (line5 c) ≡ after (values5 c) (readFields (drop 5 widths) 41 (line5 c))
 after5 c =
     after4 (c .before .before .before .before)
-    ∙ after-value (values4 (c .before .before .before .before)) (10 ∷ 12 ∷ 9 ∷ 2 ∷ []) (line5 c) 31 10 (c .before .b .given .0 .0)
+    ∙ after-value (values4 (c .before .before .before .before)) (drop 5 widths) (line5 c) 31 10
+    (c .before .b .given .0 .0)
     (sym (c .before .before .before .field5 .ensures) ∙ c .before .b .given .1)
 
+abbrev start6 : tie.After-known-told6 → tie.Start
+start6 c = start5 (c .before .before .before .before)
+
 abbrev line6 : tie.After-known-told6 → List ℕ
-line6 c = line5 (c .before .before .before .before)
+line6 c = start6 c .args .line .now
 
 abbrev values6 : tie.After-known-told6 → List ℕ
 values6 c = values5 (c .before .before .before .before) ++ (c .before .c .given .0 .0 ∷ [])
 
-after6 : (c : tie.After-known-told6) → readFields widths 0 (line6 c) ≡ after (values6 c) (readFields (12 ∷ 9 ∷ 2 ∷ []) 51 (line6 c))
+after6 : (c : tie.After-known-told6)
+    → readFields widths 0 (line6 c) ≡ after (values6 c) (readFields (drop 6 widths) 51 (line6 c))
 after6 c =
     after5 (c .before .before .before .before)
-    ∙ after-value (values5 (c .before .before .before .before)) (12 ∷ 9 ∷ 2 ∷ []) (line6 c) 41 10 (c .before .c .given .0 .0)
+    ∙ after-value (values5 (c .before .before .before .before)) (drop 6 widths) (line6 c) 41 10
+    (c .before .c .given .0 .0)
     (sym (c .before .before .before .field6 .ensures) ∙ c .before .c .given .1)
 
+abbrev start7 : tie.After-known-told7 → tie.Start
+start7 c = start6 (c .before .before .before .before)
+
 abbrev line7 : tie.After-known-told7 → List ℕ
-line7 c = line6 (c .before .before .before .before)
+line7 c = start7 c .args .line .now
 
 abbrev values7 : tie.After-known-told7 → List ℕ
 values7 c = values6 (c .before .before .before .before) ++ (c .before .amount .given .0 .0 ∷ [])
 
-after7 : (c : tie.After-known-told7) → readFields widths 0 (line7 c) ≡ after (values7 c) (readFields (9 ∷ 2 ∷ []) 63 (line7 c))
+after7 : (c : tie.After-known-told7)
+    → readFields widths 0 (line7 c) ≡ after (values7 c) (readFields (drop 7 widths) 63 (line7 c))
 after7 c =
     after6 (c .before .before .before .before)
-    ∙ after-value (values6 (c .before .before .before .before)) (9 ∷ 2 ∷ []) (line7 c) 51 12 (c .before .amount .given .0 .0)
+    ∙ after-value (values6 (c .before .before .before .before)) (drop 7 widths) (line7 c) 51 12
+    (c .before .amount .given .0 .0)
     (sym (c .before .before .before .field7 .ensures) ∙ c .before .amount .given .1)
 
+abbrev start8 : tie.After-known-told8 → tie.Start
+start8 c = start7 (c .before .before .before .before)
+
 abbrev line8 : tie.After-known-told8 → List ℕ
-line8 c = line7 (c .before .before .before .before)
+line8 c = start8 c .args .line .now
 
 abbrev values8 : tie.After-known-told8 → List ℕ
 values8 c = values7 (c .before .before .before .before) ++ (c .before .second .given .0 .0 ∷ [])
 
-after8 : (c : tie.After-known-told8) → readFields widths 0 (line8 c) ≡ after (values8 c) (readFields (2 ∷ []) 72 (line8 c))
+after8 : (c : tie.After-known-told8)
+    → readFields widths 0 (line8 c) ≡ after (values8 c) (readFields (drop 8 widths) 72 (line8 c))
 after8 c =
     after7 (c .before .before .before .before)
-    ∙ after-value (values7 (c .before .before .before .before)) (2 ∷ []) (line8 c) 63 9 (c .before .second .given .0 .0)
+    ∙ after-value (values7 (c .before .before .before .before)) (drop 8 widths) (line8 c) 63 9
+    (c .before .second .given .0 .0)
     (sym (c .before .before .before .field8 .ensures) ∙ c .before .second .given .1)
 
+abbrev start9 : tie.After-known-told9 → tie.Start
+start9 c = start8 (c .before .before .before .before)
+
 abbrev line9 : tie.After-known-told9 → List ℕ
-line9 c = line8 (c .before .before .before .before)
+line9 c = start9 c .args .line .now
 
 abbrev values9 : tie.After-known-told9 → List ℕ
 values9 c = values8 (c .before .before .before .before) ++ (c .before .code .given .0 .0 ∷ [])
 
-after9 : (c : tie.After-known-told9) → readFields widths 0 (line9 c) ≡ after (values9 c) (readFields [] 74 (line9 c))
+after9 : (c : tie.After-known-told9)
+    → readFields widths 0 (line9 c) ≡ after (values9 c) (readFields (drop 9 widths) 74 (line9 c))
 after9 c =
     after8 (c .before .before .before .before)
-    ∙ after-value (values8 (c .before .before .before .before)) [] (line9 c) 72 2 (c .before .code .given .0 .0)
+    ∙ after-value (values8 (c .before .before .before .before)) (drop 9 widths) (line9 c) 72 2
+    (c .before .code .given .0 .0)
     (sym (c .before .before .before .field9 .ensures) ∙ c .before .code .given .1)
 
 field-requires : tie.Need-field-requires
@@ -131,7 +177,7 @@ returns : tie.Need-returns
 returns c =
     ap taken
     (sym
-    (after-none [] (9 ∷ 10 ∷ 10 ∷ 10 ∷ 10 ∷ 12 ∷ 9 ∷ 2 ∷ []) (c .before .before .before .before .args .line .now) 0 2
+    (after-none [] (drop 1 widths) (c .before .before .before .before .args .line .now) 0 2
     (sym (c .before .before .field .ensures) ∙ c .enum-told .given .1)))
 
 field-requires-2 : tie.Need-field-requires-2
@@ -148,7 +194,7 @@ returns-2 c =
     ap taken
     (sym
     (after1 (c .before .before .before)
-    ∙ after-none (values1 (c .before .before .before)) (10 ∷ 10 ∷ 10 ∷ 10 ∷ 12 ∷ 9 ∷ 2 ∷ []) (line1 (c .before .before .before)) 2 9
+    ∙ after-none (values1 (c .before .before .before)) (drop 2 widths) (line1 (c .before .before .before)) 2 9
     (sym (c .before .before .field2 .ensures) ∙ c .enum-told2 .given .1)))
 
 field-requires-3 : tie.Need-field-requires-3
@@ -165,7 +211,7 @@ returns-3 c =
     ap taken
     (sym
     (after2 (c .before .before .before)
-    ∙ after-none (values2 (c .before .before .before)) (10 ∷ 10 ∷ 10 ∷ 12 ∷ 9 ∷ 2 ∷ []) (line2 (c .before .before .before)) 11 10
+    ∙ after-none (values2 (c .before .before .before)) (drop 3 widths) (line2 (c .before .before .before)) 11 10
     (sym (c .before .before .field3 .ensures) ∙ c .enum-told3 .given .1)))
 
 field-requires-4 : tie.Need-field-requires-4
@@ -182,7 +228,7 @@ returns-4 c =
     ap taken
     (sym
     (after3 (c .before .before .before)
-    ∙ after-none (values3 (c .before .before .before)) (10 ∷ 10 ∷ 12 ∷ 9 ∷ 2 ∷ []) (line3 (c .before .before .before)) 21 10
+    ∙ after-none (values3 (c .before .before .before)) (drop 4 widths) (line3 (c .before .before .before)) 21 10
     (sym (c .before .before .field4 .ensures) ∙ c .enum-told4 .given .1)))
 
 field-requires-5 : tie.Need-field-requires-5
@@ -199,7 +245,7 @@ returns-5 c =
     ap taken
     (sym
     (after4 (c .before .before .before)
-    ∙ after-none (values4 (c .before .before .before)) (10 ∷ 12 ∷ 9 ∷ 2 ∷ []) (line4 (c .before .before .before)) 31 10
+    ∙ after-none (values4 (c .before .before .before)) (drop 5 widths) (line4 (c .before .before .before)) 31 10
     (sym (c .before .before .field5 .ensures) ∙ c .enum-told5 .given .1)))
 
 field-requires-6 : tie.Need-field-requires-6
@@ -216,7 +262,7 @@ returns-6 c =
     ap taken
     (sym
     (after5 (c .before .before .before)
-    ∙ after-none (values5 (c .before .before .before)) (12 ∷ 9 ∷ 2 ∷ []) (line5 (c .before .before .before)) 41 10
+    ∙ after-none (values5 (c .before .before .before)) (drop 6 widths) (line5 (c .before .before .before)) 41 10
     (sym (c .before .before .field6 .ensures) ∙ c .enum-told6 .given .1)))
 
 field-requires-7 : tie.Need-field-requires-7
@@ -233,11 +279,11 @@ returns-7 c =
     ap taken
     (sym
     (after6 (c .before .before .before)
-    ∙ after-none (values6 (c .before .before .before)) (9 ∷ 2 ∷ []) (line6 (c .before .before .before)) 51 12
+    ∙ after-none (values6 (c .before .before .before)) (drop 7 widths) (line6 (c .before .before .before)) 51 12
     (sym (c .before .before .field7 .ensures) ∙ c .enum-told7 .given .1)))
 
 field-requires-8 : tie.Need-field-requires-8
-field-requires-8 c κs = (omega (arith, c .before .before .before .before .before .before .before .before .before .before .before .before .before .before .before .before .before .before .before .before .before .before .before .before .before .before .before .before .before .pre), lit≤ tt)
+field-requires-8 c κs = (omega (arith, start7 c .pre), lit≤ tt)
 
 enum-known-second : tie.Need-enum-known-second
 enum-known-second c = search needs
@@ -250,11 +296,11 @@ returns-8 c =
     ap taken
     (sym
     (after7 (c .before .before .before)
-    ∙ after-none (values7 (c .before .before .before)) (2 ∷ []) (line7 (c .before .before .before)) 63 9
+    ∙ after-none (values7 (c .before .before .before)) (drop 8 widths) (line7 (c .before .before .before)) 63 9
     (sym (c .before .before .field8 .ensures) ∙ c .enum-told8 .given .1)))
 
 field-requires-9 : tie.Need-field-requires-9
-field-requires-9 c κs = (omega (arith, c .before .before .before .before .before .before .before .before .before .before .before .before .before .before .before .before .before .before .before .before .before .before .before .before .before .before .before .before .before .before .before .before .before .pre), lit≤ tt)
+field-requires-9 c κs = (omega (arith, start8 c .pre), lit≤ tt)
 
 enum-known-code : tie.Need-enum-known-code
 enum-known-code c = search needs
@@ -267,7 +313,7 @@ returns-9 c =
     ap taken
     (sym
     (after8 (c .before .before .before)
-    ∙ after-none (values8 (c .before .before .before)) [] (line8 (c .before .before .before)) 72 2
+    ∙ after-none (values8 (c .before .before .before)) (drop 9 widths) (line8 (c .before .before .before)) 72 2
     (sym (c .before .before .field9 .ensures) ∙ c .enum-told9 .given .1)))
 
 judged-requires : tie.Need-judged-requires

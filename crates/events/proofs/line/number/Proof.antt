@@ -16,7 +16,9 @@ add-if2 : tie.Need-add-if2
 add-if2 c = search needs
 
 returns : tie.Need-returns
-returns c = sym (c .before .before .before .blanks .ensures .1 ∙ readNumber-lead _ _ (c .before .before .if1 .taken) (c .if2 .taken))
+returns c =
+    sym
+    (c .before .before .before .blanks .ensures .1 ∙ readNumber-lead _ _ (c .before .before .if1 .taken) (c .if2 .taken))
 
 digits-requires : tie.Need-digits-requires
 digits-requires c κs = search needs

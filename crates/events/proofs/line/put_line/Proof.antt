@@ -29,7 +29,11 @@ abbrev bytes2 : tie.After-put2 → List ℕ
 bytes2 c = bytes1 (c .before .before .before .before) ++ fieldBytes 9 (start2 c .args .e .date)
 
 front2 : (c : tie.After-put2) → Front (bytes2 c) 11 (start2 c .args .out .now) (c .put2 .last .0)
-front2 c = front-field (bytes1 (c .before .before .before .before)) _ _ _ 2 9 _ (front1 (c .before .before .before .before)) (c .put2 .ensures)
+front2 c =
+    front-field
+    (bytes1 (c .before .before .before .before)) _ _ _ 2 9 _
+    (front1 (c .before .before .before .before))
+    (c .put2 .ensures)
 
 abbrev start3 : tie.After-put3 → tie.Start
 start3 c = start2 (c .before .before .before .before)
@@ -38,7 +42,11 @@ abbrev bytes3 : tie.After-put3 → List ℕ
 bytes3 c = bytes2 (c .before .before .before .before) ++ fieldBytes 10 (start3 c .args .e .mandate)
 
 front3 : (c : tie.After-put3) → Front (bytes3 c) 21 (start3 c .args .out .now) (c .put3 .last .0)
-front3 c = front-field (bytes2 (c .before .before .before .before)) _ _ _ 11 10 _ (front2 (c .before .before .before .before)) (c .put3 .ensures)
+front3 c =
+    front-field
+    (bytes2 (c .before .before .before .before)) _ _ _ 11 10 _
+    (front2 (c .before .before .before .before))
+    (c .put3 .ensures)
 
 abbrev start4 : tie.After-put4 → tie.Start
 start4 c = start3 (c .before .before .before .before)
@@ -47,7 +55,11 @@ abbrev bytes4 : tie.After-put4 → List ℕ
 bytes4 c = bytes3 (c .before .before .before .before) ++ fieldBytes 10 (start4 c .args .e .a)
 
 front4 : (c : tie.After-put4) → Front (bytes4 c) 31 (start4 c .args .out .now) (c .put4 .last .0)
-front4 c = front-field (bytes3 (c .before .before .before .before)) _ _ _ 21 10 _ (front3 (c .before .before .before .before)) (c .put4 .ensures)
+front4 c =
+    front-field
+    (bytes3 (c .before .before .before .before)) _ _ _ 21 10 _
+    (front3 (c .before .before .before .before))
+    (c .put4 .ensures)
 
 abbrev start5 : tie.After-put5 → tie.Start
 start5 c = start4 (c .before .before .before .before)
@@ -56,7 +68,11 @@ abbrev bytes5 : tie.After-put5 → List ℕ
 bytes5 c = bytes4 (c .before .before .before .before) ++ fieldBytes 10 (start5 c .args .e .b)
 
 front5 : (c : tie.After-put5) → Front (bytes5 c) 41 (start5 c .args .out .now) (c .put5 .last .0)
-front5 c = front-field (bytes4 (c .before .before .before .before)) _ _ _ 31 10 _ (front4 (c .before .before .before .before)) (c .put5 .ensures)
+front5 c =
+    front-field
+    (bytes4 (c .before .before .before .before)) _ _ _ 31 10 _
+    (front4 (c .before .before .before .before))
+    (c .put5 .ensures)
 
 abbrev start6 : tie.After-put6 → tie.Start
 start6 c = start5 (c .before .before .before .before)
@@ -65,7 +81,11 @@ abbrev bytes6 : tie.After-put6 → List ℕ
 bytes6 c = bytes5 (c .before .before .before .before) ++ fieldBytes 10 (start6 c .args .e .c)
 
 front6 : (c : tie.After-put6) → Front (bytes6 c) 51 (start6 c .args .out .now) (c .put6 .last .0)
-front6 c = front-field (bytes5 (c .before .before .before .before)) _ _ _ 41 10 _ (front5 (c .before .before .before .before)) (c .put6 .ensures)
+front6 c =
+    front-field
+    (bytes5 (c .before .before .before .before)) _ _ _ 41 10 _
+    (front5 (c .before .before .before .before))
+    (c .put6 .ensures)
 
 abbrev start7 : tie.After-put7 → tie.Start
 start7 c = start6 (c .before .before .before .before)
@@ -74,7 +94,11 @@ abbrev bytes7 : tie.After-put7 → List ℕ
 bytes7 c = bytes6 (c .before .before .before .before) ++ fieldBytes 12 (start7 c .args .e .amount)
 
 front7 : (c : tie.After-put7) → Front (bytes7 c) 63 (start7 c .args .out .now) (c .put7 .last .0)
-front7 c = front-field (bytes6 (c .before .before .before .before)) _ _ _ 51 12 _ (front6 (c .before .before .before .before)) (c .put7 .ensures)
+front7 c =
+    front-field
+    (bytes6 (c .before .before .before .before)) _ _ _ 51 12 _
+    (front6 (c .before .before .before .before))
+    (c .put7 .ensures)
 
 abbrev start8 : tie.After-put8 → tie.Start
 start8 c = start7 (c .before .before .before .before)
@@ -83,7 +107,11 @@ abbrev bytes8 : tie.After-put8 → List ℕ
 bytes8 c = bytes7 (c .before .before .before .before) ++ fieldBytes 9 (start8 c .args .e .second)
 
 front8 : (c : tie.After-put8) → Front (bytes8 c) 72 (start8 c .args .out .now) (c .put8 .last .0)
-front8 c = front-field (bytes7 (c .before .before .before .before)) _ _ _ 63 9 _ (front7 (c .before .before .before .before)) (c .put8 .ensures)
+front8 c =
+    front-field
+    (bytes7 (c .before .before .before .before)) _ _ _ 63 9 _
+    (front7 (c .before .before .before .before))
+    (c .put8 .ensures)
 
 abbrev start9 : tie.After-put9 → tie.Start
 start9 c = start8 (c .before .before .before .before)
@@ -92,7 +120,11 @@ abbrev bytes9 : tie.After-put9 → List ℕ
 bytes9 c = bytes8 (c .before .before .before .before) ++ fieldBytes 2 (start9 c .args .e .code)
 
 front9 : (c : tie.After-put9) → Front (bytes9 c) 74 (start9 c .args .out .now) (c .put9 .last .0)
-front9 c = front-field (bytes8 (c .before .before .before .before)) _ _ _ 72 2 _ (front8 (c .before .before .before .before)) (c .put9 .ensures)
+front9 c =
+    front-field
+    (bytes8 (c .before .before .before .before)) _ _ _ 72 2 _
+    (front8 (c .before .before .before .before))
+    (c .put9 .ensures)
 
 -- the buffer keeps its length, and so its room
 same8 : (c : tie.After-put8) → length (c .put8 .last .0) ≡ length (start8 c .args .out .now)
@@ -129,7 +161,8 @@ put-requires-8 : tie.Need-put-requires-8
 put-requires-8 c κs = search needs
 
 put-requires-9 : tie.Need-put-requires-9
-put-requires-9 c κs = (lit≤ tt, room (same8 (c .before .before .before)) (start8 (c .before .before .before) .pre) (lit≤ tt))
+put-requires-9 c κs =
+    (lit≤ tt, room (same8 (c .before .before .before)) (start8 (c .before .before .before) .pre) (lit≤ tt))
 
 slice-write-out : tie.Need-slice-write-out
 slice-write-out c = room (same9 (c .before .before)) (start9 (c .before .before) .pre) (lit≤ tt)
