@@ -112,60 +112,83 @@ fn lent(mandates: &mut [u64], collections: &mut [u64], creditors: &mut [u64]) {
     set_cell(creditors, 0, 1);
 }
 
-// The ledger of `lent` with one cell of the mandates changed: cell k of the first row is cell k of the table.
-fn mandate_case(name: &[u8], k: usize, v: u64) {
+// The answer to lent memory with every position 0: the tables of positions are the first entries of `zeros`.
+fn zeros_case(
+    name: &[u8],
+    zeros: &[i64],
+    header: Header,
+    mandates: &[u64],
+    collections: &[u64],
+    creditors: &[u64],
+    held: usize,
+    debtors: usize,
+    banks: usize,
+) {
+    if zeros.len() < held {
+        return;
+    }
+    if zeros.len() < debtors {
+        return;
+    }
+    if zeros.len() < banks {
+        return;
+    }
+    let fit = is_fit(
+        header,
+        mandates,
+        collections,
+        creditors,
+        &zeros[..held],
+        &zeros[..debtors],
+        &zeros[..banks],
+    );
+    line(name, answer(fit));
+}
+
+// Those tables have the sizes of their parties.
+fn unposted(
+    name: &[u8],
+    zeros: &[i64],
+    header: Header,
+    mandates: &[u64],
+    collections: &[u64],
+    creditors: &[u64],
+) {
+    zeros_case(
+        name,
+        zeros,
+        header,
+        mandates,
+        collections,
+        creditors,
+        256,
+        4096,
+        64,
+    );
+}
+
+// The ledger of `lent` with another header, cell k of the mandates v and cell j of the collections w. A cell past the
+// end changes nothing; cell k of the first row is cell k of the table.
+fn lent_case(name: &[u8], zeros: &[i64], header: Header, k: usize, v: u64, j: usize, w: u64) {
     let mut mandates = [0u64; 27];
     let mut collections = [0u64; 45];
     let mut creditors = [0u64; 256];
     lent(&mut mandates, &mut collections, &mut creditors);
     set_cell(&mut mandates, k, v);
-    let fit = is_fit(
-        head(),
-        &mandates,
-        &collections,
-        &creditors,
-        &[0i64; 256],
-        &[0i64; 4096],
-        &[0i64; 64],
-    );
-    line(name, answer(fit));
+    set_cell(&mut collections, j, w);
+    unposted(name, zeros, header, &mandates, &collections, &creditors);
 }
 
-// One cell of the collections changed.
-fn collection_case(name: &[u8], k: usize, v: u64) {
-    let mut mandates = [0u64; 27];
-    let mut collections = [0u64; 45];
-    let mut creditors = [0u64; 256];
-    lent(&mut mandates, &mut collections, &mut creditors);
-    set_cell(&mut collections, k, v);
-    let fit = is_fit(
-        head(),
-        &mandates,
-        &collections,
-        &creditors,
-        &[0i64; 256],
-        &[0i64; 4096],
-        &[0i64; 64],
-    );
-    line(name, answer(fit));
+fn mandate_case(name: &[u8], zeros: &[i64], k: usize, v: u64) {
+    lent_case(name, zeros, head(), k, v, 45, 0);
 }
 
-// Another header.
-fn header_case(name: &[u8], header: Header) {
-    let mut mandates = [0u64; 27];
-    let mut collections = [0u64; 45];
-    let mut creditors = [0u64; 256];
-    lent(&mut mandates, &mut collections, &mut creditors);
-    let fit = is_fit(
-        header,
-        &mandates,
-        &collections,
-        &creditors,
-        &[0i64; 256],
-        &[0i64; 4096],
-        &[0i64; 64],
-    );
-    line(name, answer(fit));
+fn collection_case(name: &[u8], zeros: &[i64], k: usize, v: u64) {
+    lent_case(name, zeros, head(), 27, 0, k, v);
+}
+
+fn header_case(name: &[u8], zeros: &[i64], header: Header) {
+    lent_case(name, zeros, header, 27, 0, 45, 0);
 }
 
 // One entry of the creditor table and its position, and a position of a debtor and a bank.
@@ -193,146 +216,120 @@ fn party_case(name: &[u8], entry: usize, bank: u64, creditor: i64, debtor: i64, 
     line(name, answer(fit));
 }
 
-// Tables of other sizes, with no row used and nothing posted.
-fn size_case(
-    name: &[u8],
-    mandates: &[u64],
-    collections: &[u64],
-    creditors: &[u64],
-    held: &[i64],
-    debtors: &[i64],
-    banks: &[i64],
-) {
-    let header = Header {
+fn unused() -> Header {
+    Header {
         latest: 0,
         mandates: 0,
         collections: 0,
         compensation: 0,
-    };
-    line(
-        name,
-        answer(is_fit(
-            header,
-            mandates,
-            collections,
-            creditors,
-            held,
-            debtors,
-            banks,
-        )),
-    );
+    }
 }
 
-// Row tables of other sizes.
-fn rows_case(name: &[u8], mandates: &[u64], collections: &[u64]) {
-    size_case(
-        name,
-        mandates,
-        collections,
-        &[0u64; 256],
-        &[0i64; 256],
-        &[0i64; 4096],
-        &[0i64; 64],
-    );
-}
-
-// The other tables of other sizes.
-fn parties_case(name: &[u8], creditors: &[u64], held: &[i64], debtors: &[i64], banks: &[i64]) {
-    size_case(
-        name,
-        &[0u64; 9],
-        &[0u64; 9],
-        creditors,
-        held,
-        debtors,
-        banks,
-    );
-}
-
-fn row_counts() {
-    rows_case(b"one row of each, fit", &[0u64; 9], &[0u64; 9]);
-    rows_case(b"no mandate row", &[], &[0u64; 9]);
-    rows_case(b"no collection row", &[0u64; 9], &[]);
-    rows_case(b"two mandate rows less a cell", &[0u64; 17], &[0u64; 9]);
-    rows_case(b"a collection row and a cell", &[0u64; 9], &[0u64; 10]);
-}
-
-// Row tables that are parts of one table: the first n and the first m cells of it.
-fn part_case(name: &[u8], cells: &[u64], n: usize, m: usize) {
+// Row tables of other sizes, with no row used: the first n and the first m cells of a table.
+fn rows_case(name: &[u8], cells: &[u64], zeros: &[i64], n: usize, m: usize) {
     if cells.len() < n {
         return;
     }
     if cells.len() < m {
         return;
     }
-    rows_case(name, &cells[..n], &cells[..m]);
+    unposted(
+        name,
+        zeros,
+        unused(),
+        &cells[..n],
+        &cells[..m],
+        &[0u64; 256],
+    );
 }
 
-// The most rows that may be lent, and one more.
-fn most_rows(cells: &[u64]) {
-    part_case(b"4096 mandate rows, fit", cells, 36864, 9);
-    part_case(b"4097 mandate rows", cells, 36873, 9);
-    part_case(b"16384 collection rows, fit", cells, 9, 147456);
-    part_case(b"16385 collection rows", cells, 9, 147465);
+// The other tables of other sizes, the creditors as the first cells of a table.
+fn parties_case(
+    name: &[u8],
+    cells: &[u64],
+    zeros: &[i64],
+    creditors: usize,
+    held: usize,
+    debtors: usize,
+    banks: usize,
+) {
+    if cells.len() < creditors {
+        return;
+    }
+    zeros_case(
+        name,
+        zeros,
+        unused(),
+        &[0u64; 9],
+        &[0u64; 9],
+        &cells[..creditors],
+        held,
+        debtors,
+        banks,
+    );
 }
 
-fn party_sizes() {
-    parties_case(
-        b"255 creditors",
-        &[0u64; 255],
-        &[0i64; 256],
-        &[0i64; 4096],
-        &[0i64; 64],
-    );
-    parties_case(
-        b"257 creditors",
-        &[0u64; 257],
-        &[0i64; 256],
-        &[0i64; 4096],
-        &[0i64; 64],
-    );
+fn row_counts(cells: &[u64], zeros: &[i64]) {
+    rows_case(b"one row of each, fit", cells, zeros, 9, 9);
+    rows_case(b"no mandate row", cells, zeros, 0, 9);
+    rows_case(b"no collection row", cells, zeros, 9, 0);
+    rows_case(b"two mandate rows less a cell", cells, zeros, 17, 9);
+    rows_case(b"a collection row and a cell", cells, zeros, 9, 10);
+    rows_case(b"4096 mandate rows, fit", cells, zeros, 36864, 9);
+    rows_case(b"4097 mandate rows", cells, zeros, 36873, 9);
+    rows_case(b"16384 collection rows, fit", cells, zeros, 9, 147456);
+    rows_case(b"16385 collection rows", cells, zeros, 9, 147465);
+}
+
+fn party_sizes(cells: &[u64], zeros: &[i64]) {
+    parties_case(b"255 creditors", cells, zeros, 255, 256, 4096, 64);
+    parties_case(b"257 creditors", cells, zeros, 257, 256, 4096, 64);
     parties_case(
         b"255 positions of creditors",
-        &[0u64; 256],
-        &[0i64; 255],
-        &[0i64; 4096],
-        &[0i64; 64],
+        cells,
+        zeros,
+        256,
+        255,
+        4096,
+        64,
+    );
+    parties_case(
+        b"257 positions of creditors",
+        cells,
+        zeros,
+        256,
+        257,
+        4096,
+        64,
     );
     parties_case(
         b"4095 positions of debtors",
-        &[0u64; 256],
-        &[0i64; 256],
-        &[0i64; 4095],
-        &[0i64; 64],
+        cells,
+        zeros,
+        256,
+        256,
+        4095,
+        64,
     );
     parties_case(
         b"4097 positions of debtors",
-        &[0u64; 256],
-        &[0i64; 256],
-        &[0i64; 4097],
-        &[0i64; 64],
+        cells,
+        zeros,
+        256,
+        256,
+        4097,
+        64,
     );
-    parties_case(
-        b"63 positions of banks",
-        &[0u64; 256],
-        &[0i64; 256],
-        &[0i64; 4096],
-        &[0i64; 63],
-    );
-    parties_case(
-        b"65 positions of banks",
-        &[0u64; 256],
-        &[0i64; 256],
-        &[0i64; 4096],
-        &[0i64; 65],
-    );
+    parties_case(b"63 positions of banks", cells, zeros, 256, 256, 4096, 63);
+    parties_case(b"65 positions of banks", cells, zeros, 256, 256, 4096, 65);
 }
 
-fn headers() {
+fn headers(zeros: &[i64]) {
     let h = head();
-    header_case(b"the ledger as lent, fit", h);
+    header_case(b"the ledger as lent, fit", zeros, h);
     header_case(
         b"4 mandates used of 3 rows",
+        zeros,
         Header {
             latest: h.latest,
             mandates: 4,
@@ -342,6 +339,7 @@ fn headers() {
     );
     header_case(
         b"6 collections used of 5 rows",
+        zeros,
         Header {
             latest: h.latest,
             mandates: 2,
@@ -351,6 +349,7 @@ fn headers() {
     );
     header_case(
         b"a used row of zeros",
+        zeros,
         Header {
             latest: h.latest,
             mandates: 3,
@@ -360,6 +359,7 @@ fn headers() {
     );
     header_case(
         b"latest date 20240230",
+        zeros,
         Header {
             latest: 20240230,
             mandates: 2,
@@ -369,6 +369,7 @@ fn headers() {
     );
     header_case(
         b"latest date 20091231",
+        zeros,
         Header {
             latest: 20091231,
             mandates: 2,
@@ -378,6 +379,7 @@ fn headers() {
     );
     header_case(
         b"latest date 21900101",
+        zeros,
         Header {
             latest: 21900101,
             mandates: 2,
@@ -387,6 +389,7 @@ fn headers() {
     );
     header_case(
         b"latest date 0 with a settled row",
+        zeros,
         Header {
             latest: 0,
             mandates: 2,
@@ -396,6 +399,7 @@ fn headers() {
     );
     header_case(
         b"latest date 0 with a rejected row, fit",
+        zeros,
         Header {
             latest: 0,
             mandates: 2,
@@ -405,6 +409,7 @@ fn headers() {
     );
     header_case(
         b"compensation below 0",
+        zeros,
         Header {
             latest: h.latest,
             mandates: 2,
@@ -414,6 +419,7 @@ fn headers() {
     );
     header_case(
         b"compensation at its limit, fit",
+        zeros,
         Header {
             latest: h.latest,
             mandates: 2,
@@ -423,6 +429,7 @@ fn headers() {
     );
     header_case(
         b"compensation beyond it",
+        zeros,
         Header {
             latest: h.latest,
             mandates: 2,
@@ -432,41 +439,41 @@ fn headers() {
     );
 }
 
-fn mandate_fields() {
-    mandate_case(b"mandate number 0", 0, 0);
-    mandate_case(b"mandate number 1000000000", 0, 1000000000);
-    mandate_case(b"mandate of creditor 0", 1, 0);
-    mandate_case(b"mandate of creditor 257", 1, 257);
-    mandate_case(b"mandate of a creditor not added", 1, 2);
-    mandate_case(b"mandate of debtor 0", 2, 0);
-    mandate_case(b"mandate of debtor 4097", 2, 4097);
-    mandate_case(b"mandate at bank 0", 3, 0);
-    mandate_case(b"mandate at bank 65", 3, 65);
-    mandate_case(b"signed on 20230229", 4, 20230229);
-    mandate_case(b"signed before the range", 4, 20091231);
-    mandate_case(b"kind 2", 5, 2);
-    mandate_case(b"standing 3", 6, 3);
-    mandate_case(b"FRST cell 2", 7, 2);
-    mandate_case(b"last presented on 20240431", 8, 20240431);
-    mandate_case(b"the last row's standing 3", 15, 3);
+fn mandate_fields(zeros: &[i64]) {
+    mandate_case(b"mandate number 0", zeros, 0, 0);
+    mandate_case(b"mandate number 1000000000", zeros, 0, 1000000000);
+    mandate_case(b"mandate of creditor 0", zeros, 1, 0);
+    mandate_case(b"mandate of creditor 257", zeros, 1, 257);
+    mandate_case(b"mandate of a creditor not added", zeros, 1, 2);
+    mandate_case(b"mandate of debtor 0", zeros, 2, 0);
+    mandate_case(b"mandate of debtor 4097", zeros, 2, 4097);
+    mandate_case(b"mandate at bank 0", zeros, 3, 0);
+    mandate_case(b"mandate at bank 65", zeros, 3, 65);
+    mandate_case(b"signed on 20230229", zeros, 4, 20230229);
+    mandate_case(b"signed before the range", zeros, 4, 20091231);
+    mandate_case(b"kind 2", zeros, 5, 2);
+    mandate_case(b"standing 3", zeros, 6, 3);
+    mandate_case(b"FRST cell 2", zeros, 7, 2);
+    mandate_case(b"last presented on 20240431", zeros, 8, 20240431);
+    mandate_case(b"the last row's standing 3", zeros, 15, 3);
 }
 
-fn collection_fields() {
-    collection_case(b"collection number 0", 0, 0);
-    collection_case(b"collection number 1000000000", 0, 1000000000);
-    collection_case(b"collection of creditor 257", 1, 257);
-    collection_case(b"collection of a creditor not added", 1, 2);
-    collection_case(b"collection of debtor 4097", 2, 4097);
-    collection_case(b"creditor bank 65", 3, 65);
-    collection_case(b"debtor bank 0", 4, 0);
-    collection_case(b"amount 0", 5, 0);
-    collection_case(b"amount 100000000000", 5, 100000000000);
-    collection_case(b"kept due 21900101", 6, 21900101);
-    collection_case(b"state 6", 7, 6);
-    collection_case(b"settled on 0", 26, 0);
-    collection_case(b"settled on 20240230", 26, 20240230);
-    collection_case(b"settled after the latest date", 26, 20240413);
-    collection_case(b"undone after the latest date", 35, 20240413);
+fn collection_fields(zeros: &[i64]) {
+    collection_case(b"collection number 0", zeros, 0, 0);
+    collection_case(b"collection number 1000000000", zeros, 0, 1000000000);
+    collection_case(b"collection of creditor 257", zeros, 1, 257);
+    collection_case(b"collection of a creditor not added", zeros, 1, 2);
+    collection_case(b"collection of debtor 4097", zeros, 2, 4097);
+    collection_case(b"creditor bank 65", zeros, 3, 65);
+    collection_case(b"debtor bank 0", zeros, 4, 0);
+    collection_case(b"amount 0", zeros, 5, 0);
+    collection_case(b"amount 100000000000", zeros, 5, 100000000000);
+    collection_case(b"kept due 21900101", zeros, 6, 21900101);
+    collection_case(b"state 6", zeros, 7, 6);
+    collection_case(b"settled on 0", zeros, 26, 0);
+    collection_case(b"settled on 20240230", zeros, 26, 20240230);
+    collection_case(b"settled after the latest date", zeros, 26, 20240413);
+    collection_case(b"undone after the latest date", zeros, 35, 20240413);
 }
 
 fn parties() {
@@ -483,21 +490,21 @@ fn parties() {
 }
 
 // Fit, though a hasty reading would refuse it.
-fn fit_all_the_same() {
-    mandate_case(b"two mandates of one number, fit", 9, 7);
-    collection_case(b"two collections of one number, fit", 9, 70);
-    collection_case(b"kept due on a Saturday, fit", 6, 20240330);
-    collection_case(b"settled on a Sunday, fit", 26, 20240407);
-    collection_case(b"settled before the kept due, fit", 26, 20240327);
-    collection_case(b"settled on the latest date, fit", 26, 20240412);
-    mandate_case(b"signed after the latest date, fit", 4, 20250101);
-    mandate_case(b"FRST due on a one-off, fit", 16, 1);
-    mandate_case(b"nothing presented yet, fit", 8, 0);
-    collection_case(b"another creditor bank than today's, fit", 3, 9);
-    collection_case(b"any day of a presented row, fit", 8, 99999999);
-    collection_case(b"any day of a rejected row, fit", 17, 20300101);
-    mandate_case(b"any cell of an unused mandate row, fit", 24, 77);
-    collection_case(b"any cell of an unused collection row, fit", 43, 77);
+fn fit_all_the_same(zeros: &[i64]) {
+    mandate_case(b"two mandates of one number, fit", zeros, 9, 7);
+    collection_case(b"two collections of one number, fit", zeros, 9, 70);
+    collection_case(b"kept due on a Saturday, fit", zeros, 6, 20240330);
+    collection_case(b"settled on a Sunday, fit", zeros, 26, 20240407);
+    collection_case(b"settled before the kept due, fit", zeros, 26, 20240327);
+    collection_case(b"settled on the latest date, fit", zeros, 26, 20240412);
+    mandate_case(b"signed after the latest date, fit", zeros, 4, 20250101);
+    mandate_case(b"FRST due on a one-off, fit", zeros, 16, 1);
+    mandate_case(b"nothing presented yet, fit", zeros, 8, 0);
+    collection_case(b"another creditor bank than today's, fit", zeros, 3, 9);
+    collection_case(b"any day of a presented row, fit", zeros, 8, 99999999);
+    collection_case(b"any day of a rejected row, fit", zeros, 17, 20300101);
+    mandate_case(b"any cell of an unused mandate row, fit", zeros, 24, 77);
+    collection_case(b"any cell of an unused collection row, fit", zeros, 43, 77);
     party_case(
         b"positions that do not add up to 0, fit",
         0,
@@ -578,14 +585,15 @@ fn openings() {
 }
 
 fn main() {
-    row_counts();
-    most_rows(&[0u64; 147465]);
-    party_sizes();
-    headers();
-    mandate_fields();
-    collection_fields();
+    let zeros = [0i64; 4097];
+    let cells = [0u64; 147465];
+    row_counts(&cells, &zeros);
+    party_sizes(&cells, &zeros);
+    headers(&zeros);
+    mandate_fields(&zeros);
+    collection_fields(&zeros);
     parties();
-    fit_all_the_same();
+    fit_all_the_same(&zeros);
     lookups();
     openings();
 }
