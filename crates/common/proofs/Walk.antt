@@ -1,7 +1,7 @@
 -- Laws of specs/Walk. Names: F-hit, F-miss, F-end are the steps of a loop that walks from i up to n; F-same: two tests that
 -- agree give one answer. To cite besides: `allFrom-at`, `allFrom-made`, and `firstFrom-cases`, from which all else of a
 -- search follows. Assumes nothing.
-use mathlib.Core.Path.{_≡_, refl, sym, _∙_, ap}
+use mathlib.Core.Path.{_≡_, refl}
 use mathlib.Core.Bool.{Bool, true, false, cond}
 use mathlib.Core.Logic.{⊎-elim}
 use Prim.Native.Nat.{ℕ, zero, suc, _+_, _-_, _≤_, _<_}

@@ -3,18 +3,17 @@
 -- and `rowsFit-put-next` (a fit table with a fit row put in it is fit), `rowsFit-implies`, and what an event may change:
 -- `mandateFit-added`, `collectionFit-added`, `collectionFit-later`, `creditorsFit-added`, `creditorsFit-posted`,
 -- `positionsFit-posted`. Assumes nothing.
-use mathlib.Core.Path.{_≡_, refl, sym, _∙_, ap}
+use mathlib.Core.Path.{_≡_, refl, _∙_, ap}
 use mathlib.Core.Bool.{Bool, true, false, not, _&&_, _||_}
 use mathlib.Core.List.{List, [], _∷_}
-use mathlib.Core.Logic.{_≢_, _⊎_, inl, inr, ⊎-elim}
-use Prim.Native.Nat.{ℕ, zero, suc, _+_, _-_, _*_, _%_, _≤_, _<_}
+use mathlib.Core.Logic.{_≢_, _⊎_, ⊎-elim}
+use Prim.Native.Nat.{ℕ, zero, suc, _+_, _-_, _%_, _≤_, _<_}
 use native.Mathlib.Omega.{arith}
-use borrow.Author.Tests.{leb-true, leb-false, le-leb, lt-leb, eqb-true, eqb-false, eq-eqb, ne-eqb, ltb-true, ltb-false}
+use borrow.Author.Tests.{leb-true, le-leb, eqb-true, eqb-false, eq-eqb, ltb-true, ltb-false}
 use lib.Dec.{eqb, leb, ltb}
 use lib.IntN.{ℤ, pos, negsuc, natAbs}
 use lib.ListN.{length, getD, set, length-set}
-use lib.Seq.{getD-set-same, getD-set-other, set-out}
-use lib.Signed.{leZ}
+use lib.Seq.{getD-set-same, getD-set-other}
 use Rattle.common.specs.Tests.{allOf}
 use Rattle.common.specs.Walk.{allFrom}
 use Rattle.common.proofs.Tests.{never, true-or-false, and-halves, and-true, or-cases, allOf-at}
@@ -27,11 +26,10 @@ use Rattle.tables.specs.declared.Standing.the-variants.{Live, Closed, Ca
 use Rattle.tables.specs.declared.Collection.{Collection}
 use Rattle.tables.specs.declared.State.{State}
 use Rattle.tables.specs.declared.State.the-variants.{Presented, Rejected, Settled, Undone}
-use Rattle.tables.specs.declared.Undoing.{Undoing}
 use Rattle.tables.specs.declared.Undoing.the-variants.{Return, Refund, Reversal}
 use Rattle.tables.specs.Limits.{creditorCount, debtorCount, bankCount, numberLimit, amountLimit, mandateRowLimit, collectionRowLimit, stride, positionLimit}
 use Rattle.tables.specs.Records.{standingTag, flagCell, mandateCells, mandateOf, stateTag, stateDay, stateOf, collectionCells, collectionOf}
-use Rattle.tables.specs.Rows.{rows, rowAt, putRow, mandateAt, collectionAt}
+use Rattle.tables.specs.Rows.{rows, rowAt, putRow, mandateAt, putMandate, collectionAt, putCollection}
 use Rattle.tables.specs.Ledger.{Ledger, bankOf, added}
 use Rattle.tables.specs.Fitness.{within, noneOrDate, positionFit, compensationFit, isZero, rowCountFit, sizeTests, sizesOf, sizesFit, headerTests, headerOf, headerFit, rowFit, rowsFit, mandateTests, mandateFit, dayFit, collectionTests, collectionFit, creditorTests, creditorFit, creditorFitAt, creditorsFit, positionFitAt, positionsFit, contentTests, fit}
 use Rattle.tables.proofs.Laws.Rows.{rowAt-put-same, rowAt-put-other}
@@ -331,6 +329,26 @@ collection-made latest creditors c f =
     (f .due-date)
     (tag-fit (c .state))
     (f .state-fit)
+
+-- ---- a fit record put in a fit table
+
+module _ (creditors cells : List ℕ) (used : ℕ) (m : Mandate) (f : MandateFit creditors m) where
+  pub mandates-put-used : (row : ℕ) → rowsFit (mandateFit creditors) cells used ≡ true → row < rows cells → rowsFit (mandateFit creditors) (putMandate cells row m) used ≡ true
+  mandates-put-used row e h =
+      rowsFit-put-used (mandateFit creditors) cells used row (mandateCells m) refl e (mandate-made creditors m f) h
+
+  pub mandates-put-next : rowsFit (mandateFit creditors) cells used ≡ true → used < rows cells → rowsFit (mandateFit creditors) (putMandate cells used m) (used + 1) ≡ true
+  mandates-put-next e h =
+      rowsFit-put-next (mandateFit creditors) cells used (mandateCells m) refl e (mandate-made creditors m f) h
+
+module _ (latest : ℕ) (creditors cells : List ℕ) (used : ℕ) (c : Collection) (f : CollectionFit latest creditors c) where
+  pub collections-put-used : (row : ℕ) → rowsFit (collectionFit latest creditors) cells used ≡ true → row < rows cells → rowsFit (collectionFit latest creditors) (putCollection cells row c) used ≡ true
+  collections-put-used row e h =
+      rowsFit-put-used (collectionFit latest creditors) cells used row (collectionCells c) refl e (collection-made latest creditors c f) h
+
+  pub collections-put-next : rowsFit (collectionFit latest creditors) cells used ≡ true → used < rows cells → rowsFit (collectionFit latest creditors) (putCollection cells used c) (used + 1) ≡ true
+  collections-put-next e h =
+      rowsFit-put-next (collectionFit latest creditors) cells used (collectionCells c) refl e (collection-made latest creditors c f) h
 
 -- ---- what keeps a row fit
 

@@ -1,15 +1,15 @@
 -- Laws of specs/Lookup: a row that is found is the lowest used one of its number, and what a written row does to a lookup.
 -- To cite: `Lowest` with `lookup-at` and `lookup-made`, `lookup-nothing`, `lookup-none`, `lookup-put-kept`,
--- `lookup-put-next`. Assumes nothing.
+-- `lookup-put-next`, `mandateAt-number`, `collectionAt-number`. Assumes nothing.
 use mathlib.Core.Path.{_≡_, refl, sym, _∙_, ap}
-use mathlib.Core.Bool.{Bool, true, false, cond}
+use mathlib.Core.Bool.{Bool, cond}
 use mathlib.Core.List.{List}
 use mathlib.Core.Logic.{_≢_, ⊎-elim}
-use Prim.Native.Nat.{ℕ, suc, _+_, _-_, _*_, _≤_, _<_}
+use Prim.Native.Nat.{ℕ, _+_, _-_, _*_, _≤_, _<_}
 use native.Mathlib.Nat.{add-zero}
 use native.Mathlib.Numerals.{add-one}
 use native.Mathlib.Omega.{arith}
-use borrow.Author.Tests.{ltb-true, ltb-false, lt-ltb, le-ltb, eqb-true, eqb-false, eq-eqb, ne-eqb}
+use borrow.Author.Tests.{ltb-true, ltb-false, eqb-true, eqb-false}
 use lib.Dec.{eqb, ltb}
 use lib.ListN.{length, getD}
 use Rattle.common.specs.Walk.{firstFrom}
@@ -18,7 +18,8 @@ use Rattle.common.proofs.Walk.{all-left, firstFrom-cases, firstFrom-more, first
 use Rattle.tables.specs.declared.Found.{Found}
 use Rattle.tables.specs.declared.Found.the-variants.{At, Nothing}
 use Rattle.tables.specs.Limits.{stride}
-use Rattle.tables.specs.Rows.{rows, putRow}
+use Rattle.tables.specs.Records.{mandateOf, collectionOf}
+use Rattle.tables.specs.Rows.{rows, putRow, mandateAt, collectionAt}
 use Rattle.tables.specs.Lookup.{numberAt, numberIs, existing, lookup}
 use Rattle.tables.proofs.Laws.Rows.{rows-put, cell-put-same, cell-put-other}
 
@@ -105,6 +106,16 @@ module _ (cells : List ℕ) (used number : ℕ) where
       (λ (f : Found). f ≡ Nothing)
       (λ k low. absurd (none k (low .existing-row) (low .number-row)))
       (λ n. refl)
+
+-- ---- a row's number in its record
+
+pub mandateAt-number : (cells : List ℕ) (row : ℕ) → mandateAt cells row .number ≡ numberAt cells row
+unfolding mandateAt mandateOf
+mandateAt-number cells row = rw (add-zero (row * stride))
+
+pub collectionAt-number : (cells : List ℕ) (row : ℕ) → collectionAt cells row .number ≡ numberAt cells row
+unfolding collectionAt collectionOf
+collectionAt-number cells row = rw (add-zero (row * stride))
 
 -- ---- lookup after a row is written
 

@@ -2,9 +2,8 @@
 -- written and another one. To cite: `rowAt-put-same`, `rowAt-put-other`, `cell-put-outside`, `cell-put-unused`,
 -- `length-put`, and for the two tables `mandateAt-put-same` and so on. Assumes nothing.
 use mathlib.Core.Path.{_≡_, refl, sym, _∙_, ap}
-use mathlib.Core.Bool.{Bool, true, false, cond}
 use mathlib.Core.List.{List, [], _∷_}
-use mathlib.Core.Logic.{_≢_, _⊎_, inl, inr, ⊎-elim}
+use mathlib.Core.Logic.{_≢_, _⊎_, ⊎-elim}
 use Prim.Native.Nat.{ℕ, zero, suc, _+_, _*_, _/_, _≤_, _<_}
 use native.Mathlib.Nat.{add-zero, suc-mul, mul-le-mul-right, le-div-iff-mul-le}
 use native.Mathlib.Numerals.{add-one}

@@ -3,36 +3,25 @@ use lib.Seq.{length-take-le}
 use borrow.Author.Needs.{needs}
 use Rattle.tables_cases.proofs.parties_case.Statement.{statement}
 use Rattle.tables_cases.proofs.parties_case.Tie as tie
-use Rattle.tables_cases.proofs.parties_case.Reads as reads
-use Rattle.tables_cases.proofs.parties_case.Lts as lts
-use Rattle.tables_cases.proofs.unused.Reads as unused-reads
-use Rattle.tables_cases.proofs.zeros_case.Reads as zeros-case-reads
 
--- src/main.rt:257:9
 returns : tie.Need-returns
 returns c = search needs
 
--- src/main.rt:262:9
 unused-requires : tie.Need-unused-requires
 unused-requires c κs = search needs
 
--- src/main.rt:263:9
 slice-aggregate-zeros-case : tie.Need-slice-aggregate-zeros-case
 slice-aggregate-zeros-case c = search needs
 
--- src/main.rt:264:9
 slice-aggregate-zeros-case-2 : tie.Need-slice-aggregate-zeros-case-2
 slice-aggregate-zeros-case-2 c = search needs
 
--- src/main.rt:265:9
 slice-aggregate-zeros-case-3 : tie.Need-slice-aggregate-zeros-case-3
 slice-aggregate-zeros-case-3 c = sym (length-take-le _ _ (search needs))
 
--- src/main.rt:259:5
 zeros-case-requires : tie.Need-zeros-case-requires
 zeros-case-requires c κs = search needs
 
--- src/main.rt:247:1
 returns-2 : tie.Need-returns-2
 returns-2 c = search needs
 
