@@ -1,6 +1,8 @@
 -- Laws of specs/Rows, over the width w, the table and the fields. Names: F-put-same and F-put-other read the row that was
--- written and another one. To cite: `rowAt-put-same`, `rowAt-put-other`, `cell-put-outside`, `cell-put-unused`,
--- `length-put`, and for the two tables `mandateAt-put-same` and so on. Assumes nothing.
+-- written and another one. To cite: `rowAt-put-same`, `rowAt-put-other`, `rowAt-cell`, `length-put`, `rows-put`,
+-- `put-nowhere`; of cells `cell-put-before`, `cell-put-after`, `cell-put-unused` (no cell of an unused row is written); for
+-- the two tables `mandateAt-put-same`, `mandateAt-put-other`, `collectionAt-put-same`, `collectionAt-put-other`.
+-- Assumes nothing.
 use mathlib.Core.Path.{_≡_, refl, sym, _∙_, ap}
 use mathlib.Core.List.{List, [], _∷_}
 use mathlib.Core.Logic.{_≢_, _⊎_, ⊎-elim}
