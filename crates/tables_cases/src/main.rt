@@ -50,13 +50,13 @@ fn set_position(positions: &mut [i64], k: usize, z: i64) {
     }
 }
 
-// The header of the ledger that the cases start from: 2 of 3 mandate rows and 4 of 5 collection rows are used.
-fn head() -> Header {
+// A header; the cases start from the latest date 20240412, with 2 of 3 mandate rows and 4 of 5 collection rows used.
+fn head(latest: u64, mandates: usize, collections: usize, cents: i64) -> Header {
     Header {
-        latest: 20240412,
-        mandates: 2,
-        collections: 4,
-        compensation: 10,
+        latest: latest,
+        mandates: mandates,
+        collections: collections,
+        compensation: cents,
     }
 }
 
@@ -112,83 +112,49 @@ fn lent(mandates: &mut [u64], collections: &mut [u64], creditors: &mut [u64]) {
     set_cell(creditors, 0, 1);
 }
 
-// The answer to lent memory with every position 0: the tables of positions are the first entries of `zeros`.
-fn zeros_case(
-    name: &[u8],
-    zeros: &[i64],
-    header: Header,
-    mandates: &[u64],
-    collections: &[u64],
-    creditors: &[u64],
-    held: usize,
-    debtors: usize,
-    banks: usize,
-) {
-    if zeros.len() < held {
-        return;
-    }
-    if zeros.len() < debtors {
-        return;
-    }
-    if zeros.len() < banks {
-        return;
-    }
+// The answer to a header, rows and creditors, with every position 0.
+fn unposted(name: &[u8], header: Header, mandates: &[u64], collections: &[u64], creditors: &[u64]) {
     let fit = is_fit(
         header,
         mandates,
         collections,
         creditors,
-        &zeros[..held],
-        &zeros[..debtors],
-        &zeros[..banks],
+        &[0i64; 256],
+        &[0i64; 4096],
+        &[0i64; 64],
     );
     line(name, answer(fit));
 }
 
-// Those tables have the sizes of their parties.
-fn unposted(
-    name: &[u8],
-    zeros: &[i64],
-    header: Header,
-    mandates: &[u64],
-    collections: &[u64],
-    creditors: &[u64],
-) {
-    zeros_case(
-        name,
-        zeros,
-        header,
-        mandates,
-        collections,
-        creditors,
-        256,
-        4096,
-        64,
-    );
-}
-
 // The ledger of `lent` with another header, cell k of the mandates v and cell j of the collections w. A cell past the
 // end changes nothing; cell k of the first row is cell k of the table.
-fn lent_case(name: &[u8], zeros: &[i64], header: Header, k: usize, v: u64, j: usize, w: u64) {
+fn lent_case(name: &[u8], header: Header, k: usize, v: u64, j: usize, w: u64) {
     let mut mandates = [0u64; 27];
     let mut collections = [0u64; 45];
     let mut creditors = [0u64; 256];
     lent(&mut mandates, &mut collections, &mut creditors);
     set_cell(&mut mandates, k, v);
     set_cell(&mut collections, j, w);
-    unposted(name, zeros, header, &mandates, &collections, &creditors);
+    unposted(name, header, &mandates, &collections, &creditors);
 }
 
-fn mandate_case(name: &[u8], zeros: &[i64], k: usize, v: u64) {
-    lent_case(name, zeros, head(), k, v, 45, 0);
+fn mandate_case(name: &[u8], k: usize, v: u64) {
+    lent_case(name, head(20240412, 2, 4, 10), k, v, 45, 0);
 }
 
-fn collection_case(name: &[u8], zeros: &[i64], k: usize, v: u64) {
-    lent_case(name, zeros, head(), 27, 0, k, v);
+fn collection_case(name: &[u8], k: usize, v: u64) {
+    lent_case(name, head(20240412, 2, 4, 10), 27, 0, k, v);
 }
 
-fn header_case(name: &[u8], zeros: &[i64], header: Header) {
-    lent_case(name, zeros, header, 27, 0, 45, 0);
+fn header_case(name: &[u8], latest: u64, mandates: usize, collections: usize, cents: i64) {
+    lent_case(
+        name,
+        head(latest, mandates, collections, cents),
+        27,
+        0,
+        45,
+        0,
+    );
 }
 
 // One entry of the creditor table and its position, and a position of a debtor and a bank.
@@ -205,7 +171,7 @@ fn party_case(name: &[u8], entry: usize, bank: u64, creditor: i64, debtor: i64, 
     set_position(&mut debtor_positions, 4095, debtor);
     set_position(&mut bank_positions, 63, other);
     let fit = is_fit(
-        head(),
+        head(20240412, 2, 4, 10),
         &mandates,
         &collections,
         &creditors,
@@ -216,17 +182,8 @@ fn party_case(name: &[u8], entry: usize, bank: u64, creditor: i64, debtor: i64, 
     line(name, answer(fit));
 }
 
-fn unused() -> Header {
-    Header {
-        latest: 0,
-        mandates: 0,
-        collections: 0,
-        compensation: 0,
-    }
-}
-
 // Row tables of other sizes, with no row used: the first n and the first m cells of a table.
-fn rows_case(name: &[u8], cells: &[u64], zeros: &[i64], n: usize, m: usize) {
+fn rows_case(name: &[u8], cells: &[u64], n: usize, m: usize) {
     if cells.len() < n {
         return;
     }
@@ -235,15 +192,14 @@ fn rows_case(name: &[u8], cells: &[u64], zeros: &[i64], n: usize, m: usize) {
     }
     unposted(
         name,
-        zeros,
-        unused(),
+        head(0, 0, 0, 0),
         &cells[..n],
         &cells[..m],
         &[0u64; 256],
     );
 }
 
-// The other tables of other sizes, the creditors as the first cells of a table.
+// The other tables of other sizes: the first cells of one table, and the first entries of `zeros`.
 fn parties_case(
     name: &[u8],
     cells: &[u64],
@@ -256,224 +212,101 @@ fn parties_case(
     if cells.len() < creditors {
         return;
     }
-    zeros_case(
-        name,
-        zeros,
-        unused(),
+    if zeros.len() < held {
+        return;
+    }
+    if zeros.len() < debtors {
+        return;
+    }
+    if zeros.len() < banks {
+        return;
+    }
+    let header = head(0, 0, 0, 0);
+    let fit = is_fit(
+        header,
         &[0u64; 9],
         &[0u64; 9],
         &cells[..creditors],
-        held,
-        debtors,
-        banks,
+        &zeros[..held],
+        &zeros[..debtors],
+        &zeros[..banks],
     );
+    line(name, answer(fit));
 }
 
-fn row_counts(cells: &[u64], zeros: &[i64]) {
-    rows_case(b"one row of each, fit", cells, zeros, 9, 9);
-    rows_case(b"no mandate row", cells, zeros, 0, 9);
-    rows_case(b"no collection row", cells, zeros, 9, 0);
-    rows_case(b"two mandate rows less a cell", cells, zeros, 17, 9);
-    rows_case(b"a collection row and a cell", cells, zeros, 9, 10);
-    rows_case(b"4096 mandate rows, fit", cells, zeros, 36864, 9);
-    rows_case(b"4097 mandate rows", cells, zeros, 36873, 9);
-    rows_case(b"16384 collection rows, fit", cells, zeros, 9, 147456);
-    rows_case(b"16385 collection rows", cells, zeros, 9, 147465);
+fn row_counts(cells: &[u64]) {
+    rows_case(b"one row of each, fit", cells, 9, 9);
+    rows_case(b"no mandate row", cells, 0, 9);
+    rows_case(b"no collection row", cells, 9, 0);
+    rows_case(b"two mandate rows less a cell", cells, 17, 9);
+    rows_case(b"a collection row and a cell", cells, 9, 10);
+    rows_case(b"4096 mandate rows, fit", cells, 36864, 9);
+    rows_case(b"4097 mandate rows", cells, 36873, 9);
+    rows_case(b"16384 collection rows, fit", cells, 9, 147456);
+    rows_case(b"16385 collection rows", cells, 9, 147465);
 }
 
 fn party_sizes(cells: &[u64], zeros: &[i64]) {
     parties_case(b"255 creditors", cells, zeros, 255, 256, 4096, 64);
     parties_case(b"257 creditors", cells, zeros, 257, 256, 4096, 64);
-    parties_case(
-        b"255 positions of creditors",
-        cells,
-        zeros,
-        256,
-        255,
-        4096,
-        64,
-    );
-    parties_case(
-        b"257 positions of creditors",
-        cells,
-        zeros,
-        256,
-        257,
-        4096,
-        64,
-    );
-    parties_case(
-        b"4095 positions of debtors",
-        cells,
-        zeros,
-        256,
-        256,
-        4095,
-        64,
-    );
-    parties_case(
-        b"4097 positions of debtors",
-        cells,
-        zeros,
-        256,
-        256,
-        4097,
-        64,
-    );
-    parties_case(b"63 positions of banks", cells, zeros, 256, 256, 4096, 63);
-    parties_case(b"65 positions of banks", cells, zeros, 256, 256, 4096, 65);
+    parties_case(b"255 creditor positions", cells, zeros, 256, 255, 4096, 64);
+    parties_case(b"257 creditor positions", cells, zeros, 256, 257, 4096, 64);
+    parties_case(b"4095 debtor positions", cells, zeros, 256, 256, 4095, 64);
+    parties_case(b"4097 debtor positions", cells, zeros, 256, 256, 4097, 64);
+    parties_case(b"63 bank positions", cells, zeros, 256, 256, 4096, 63);
+    parties_case(b"65 bank positions", cells, zeros, 256, 256, 4096, 65);
 }
 
-fn headers(zeros: &[i64]) {
-    let h = head();
-    header_case(b"the ledger as lent, fit", zeros, h);
-    header_case(
-        b"4 mandates used of 3 rows",
-        zeros,
-        Header {
-            latest: h.latest,
-            mandates: 4,
-            collections: 4,
-            compensation: 10,
-        },
-    );
-    header_case(
-        b"6 collections used of 5 rows",
-        zeros,
-        Header {
-            latest: h.latest,
-            mandates: 2,
-            collections: 6,
-            compensation: 10,
-        },
-    );
-    header_case(
-        b"a used row of zeros",
-        zeros,
-        Header {
-            latest: h.latest,
-            mandates: 3,
-            collections: 4,
-            compensation: 10,
-        },
-    );
-    header_case(
-        b"latest date 20240230",
-        zeros,
-        Header {
-            latest: 20240230,
-            mandates: 2,
-            collections: 1,
-            compensation: 10,
-        },
-    );
-    header_case(
-        b"latest date 20091231",
-        zeros,
-        Header {
-            latest: 20091231,
-            mandates: 2,
-            collections: 1,
-            compensation: 10,
-        },
-    );
-    header_case(
-        b"latest date 21900101",
-        zeros,
-        Header {
-            latest: 21900101,
-            mandates: 2,
-            collections: 1,
-            compensation: 10,
-        },
-    );
-    header_case(
-        b"latest date 0 with a settled row",
-        zeros,
-        Header {
-            latest: 0,
-            mandates: 2,
-            collections: 3,
-            compensation: 10,
-        },
-    );
-    header_case(
-        b"latest date 0 with a rejected row, fit",
-        zeros,
-        Header {
-            latest: 0,
-            mandates: 2,
-            collections: 2,
-            compensation: 10,
-        },
-    );
-    header_case(
-        b"compensation below 0",
-        zeros,
-        Header {
-            latest: h.latest,
-            mandates: 2,
-            collections: 4,
-            compensation: -1,
-        },
-    );
-    header_case(
-        b"compensation at its limit, fit",
-        zeros,
-        Header {
-            latest: h.latest,
-            mandates: 2,
-            collections: 4,
-            compensation: LIMIT,
-        },
-    );
-    header_case(
-        b"compensation beyond it",
-        zeros,
-        Header {
-            latest: h.latest,
-            mandates: 2,
-            collections: 4,
-            compensation: LIMIT + 1,
-        },
-    );
+fn headers() {
+    header_case(b"the ledger as lent, fit", 20240412, 2, 4, 10);
+    header_case(b"4 mandates used of 3 rows", 20240412, 4, 4, 10);
+    header_case(b"6 collections used of 5 rows", 20240412, 2, 6, 10);
+    header_case(b"a used row of zeros", 20240412, 3, 4, 10);
+    header_case(b"latest date 20240230", 20240230, 2, 1, 10);
+    header_case(b"latest date 20091231", 20091231, 2, 1, 10);
+    header_case(b"latest date 21900101", 21900101, 2, 1, 10);
+    header_case(b"latest date 0 with a settled row", 0, 2, 3, 10);
+    header_case(b"latest date 0 with a rejected row, fit", 0, 2, 2, 10);
+    header_case(b"compensation below 0", 20240412, 2, 4, -1);
+    header_case(b"compensation at its limit, fit", 20240412, 2, 4, LIMIT);
+    header_case(b"compensation beyond it", 20240412, 2, 4, LIMIT + 1);
 }
 
-fn mandate_fields(zeros: &[i64]) {
-    mandate_case(b"mandate number 0", zeros, 0, 0);
-    mandate_case(b"mandate number 1000000000", zeros, 0, 1000000000);
-    mandate_case(b"mandate of creditor 0", zeros, 1, 0);
-    mandate_case(b"mandate of creditor 257", zeros, 1, 257);
-    mandate_case(b"mandate of a creditor not added", zeros, 1, 2);
-    mandate_case(b"mandate of debtor 0", zeros, 2, 0);
-    mandate_case(b"mandate of debtor 4097", zeros, 2, 4097);
-    mandate_case(b"mandate at bank 0", zeros, 3, 0);
-    mandate_case(b"mandate at bank 65", zeros, 3, 65);
-    mandate_case(b"signed on 20230229", zeros, 4, 20230229);
-    mandate_case(b"signed before the range", zeros, 4, 20091231);
-    mandate_case(b"kind 2", zeros, 5, 2);
-    mandate_case(b"standing 3", zeros, 6, 3);
-    mandate_case(b"FRST cell 2", zeros, 7, 2);
-    mandate_case(b"last presented on 20240431", zeros, 8, 20240431);
-    mandate_case(b"the last row's standing 3", zeros, 15, 3);
+fn mandate_fields() {
+    mandate_case(b"mandate number 0", 0, 0);
+    mandate_case(b"mandate number 1000000000", 0, 1000000000);
+    mandate_case(b"mandate of creditor 0", 1, 0);
+    mandate_case(b"mandate of creditor 257", 1, 257);
+    mandate_case(b"mandate of a creditor not added", 1, 2);
+    mandate_case(b"mandate of debtor 0", 2, 0);
+    mandate_case(b"mandate of debtor 4097", 2, 4097);
+    mandate_case(b"mandate at bank 0", 3, 0);
+    mandate_case(b"mandate at bank 65", 3, 65);
+    mandate_case(b"signed on 20230229", 4, 20230229);
+    mandate_case(b"signed before the range", 4, 20091231);
+    mandate_case(b"kind 2", 5, 2);
+    mandate_case(b"standing 3", 6, 3);
+    mandate_case(b"FRST cell 2", 7, 2);
+    mandate_case(b"last presented on 20240431", 8, 20240431);
+    mandate_case(b"the last row's standing 3", 15, 3);
 }
 
-fn collection_fields(zeros: &[i64]) {
-    collection_case(b"collection number 0", zeros, 0, 0);
-    collection_case(b"collection number 1000000000", zeros, 0, 1000000000);
-    collection_case(b"collection of creditor 257", zeros, 1, 257);
-    collection_case(b"collection of a creditor not added", zeros, 1, 2);
-    collection_case(b"collection of debtor 4097", zeros, 2, 4097);
-    collection_case(b"creditor bank 65", zeros, 3, 65);
-    collection_case(b"debtor bank 0", zeros, 4, 0);
-    collection_case(b"amount 0", zeros, 5, 0);
-    collection_case(b"amount 100000000000", zeros, 5, 100000000000);
-    collection_case(b"kept due 21900101", zeros, 6, 21900101);
-    collection_case(b"state 6", zeros, 7, 6);
-    collection_case(b"settled on 0", zeros, 26, 0);
-    collection_case(b"settled on 20240230", zeros, 26, 20240230);
-    collection_case(b"settled after the latest date", zeros, 26, 20240413);
-    collection_case(b"undone after the latest date", zeros, 35, 20240413);
+fn collection_fields() {
+    collection_case(b"collection number 0", 0, 0);
+    collection_case(b"collection number 1000000000", 0, 1000000000);
+    collection_case(b"collection of creditor 257", 1, 257);
+    collection_case(b"collection of a creditor not added", 1, 2);
+    collection_case(b"collection of debtor 4097", 2, 4097);
+    collection_case(b"creditor bank 65", 3, 65);
+    collection_case(b"debtor bank 0", 4, 0);
+    collection_case(b"amount 0", 5, 0);
+    collection_case(b"amount 100000000000", 5, 100000000000);
+    collection_case(b"kept due 21900101", 6, 21900101);
+    collection_case(b"state 6", 7, 6);
+    collection_case(b"settled on 0", 26, 0);
+    collection_case(b"settled on 20240230", 26, 20240230);
+    collection_case(b"settled after the latest date", 26, 20240413);
+    collection_case(b"undone after the latest date", 35, 20240413);
 }
 
 fn parties() {
@@ -490,29 +323,22 @@ fn parties() {
 }
 
 // Fit, though a hasty reading would refuse it.
-fn fit_all_the_same(zeros: &[i64]) {
-    mandate_case(b"two mandates of one number, fit", zeros, 9, 7);
-    collection_case(b"two collections of one number, fit", zeros, 9, 70);
-    collection_case(b"kept due on a Saturday, fit", zeros, 6, 20240330);
-    collection_case(b"settled on a Sunday, fit", zeros, 26, 20240407);
-    collection_case(b"settled before the kept due, fit", zeros, 26, 20240327);
-    collection_case(b"settled on the latest date, fit", zeros, 26, 20240412);
-    mandate_case(b"signed after the latest date, fit", zeros, 4, 20250101);
-    mandate_case(b"FRST due on a one-off, fit", zeros, 16, 1);
-    mandate_case(b"nothing presented yet, fit", zeros, 8, 0);
-    collection_case(b"another creditor bank than today's, fit", zeros, 3, 9);
-    collection_case(b"any day of a presented row, fit", zeros, 8, 99999999);
-    collection_case(b"any day of a rejected row, fit", zeros, 17, 20300101);
-    mandate_case(b"any cell of an unused mandate row, fit", zeros, 24, 77);
-    collection_case(b"any cell of an unused collection row, fit", zeros, 43, 77);
-    party_case(
-        b"positions that do not add up to 0, fit",
-        0,
-        64,
-        LIMIT,
-        -LIMIT,
-        1,
-    );
+fn fit_all_the_same() {
+    mandate_case(b"two mandates of one number, fit", 9, 7);
+    collection_case(b"two collections of one number, fit", 9, 70);
+    collection_case(b"kept due on a Saturday, fit", 6, 20240330);
+    collection_case(b"settled on a Sunday, fit", 26, 20240407);
+    collection_case(b"settled before the kept due, fit", 26, 20240327);
+    collection_case(b"settled on the latest date, fit", 26, 20240412);
+    mandate_case(b"signed after the latest date, fit", 4, 20250101);
+    mandate_case(b"FRST due on a one-off, fit", 16, 1);
+    mandate_case(b"nothing presented yet, fit", 8, 0);
+    collection_case(b"another creditor bank than today's, fit", 3, 9);
+    collection_case(b"any day of a presented row, fit", 8, 99999999);
+    collection_case(b"any day of a rejected row, fit", 17, 20300101);
+    mandate_case(b"any cell of an unused mandate row, fit", 24, 77);
+    collection_case(b"any cell of an unused collection row, fit", 43, 77);
+    party_case(b"positions that add up to 1, fit", 0, 64, LIMIT, -LIMIT, 1);
 }
 
 // The row of a number, 9 where there is none.
@@ -574,12 +400,7 @@ fn open_case(name: &[u8], mandates: &[u64], header: Header, bank: u64) {
 }
 
 fn openings() {
-    let rubbish = Header {
-        latest: 77,
-        mandates: 900,
-        collections: 900,
-        compensation: -5,
-    };
+    let rubbish = head(77, 900, 900, -5);
     open_case(b"opening over rubbish", &[77u64; 27], rubbish, 99);
     open_case(b"opening of no whole rows", &[77u64; 26], rubbish, 99);
 }
@@ -587,13 +408,13 @@ fn openings() {
 fn main() {
     let zeros = [0i64; 4097];
     let cells = [0u64; 147465];
-    row_counts(&cells, &zeros);
+    row_counts(&cells);
     party_sizes(&cells, &zeros);
-    headers(&zeros);
-    mandate_fields(&zeros);
-    collection_fields(&zeros);
+    headers();
+    mandate_fields();
+    collection_fields();
     parties();
-    fit_all_the_same(&zeros);
+    fit_all_the_same();
     lookups();
     openings();
 }

@@ -7,32 +7,64 @@ use Rattle.tables_cases.proofs.parties_case.Tie as tie
 returns : tie.Need-returns
 returns c = search needs
 
-unused-requires : tie.Need-unused-requires
-unused-requires c κs = search needs
-
-slice-aggregate-zeros-case : tie.Need-slice-aggregate-zeros-case
-slice-aggregate-zeros-case c = search needs
-
-slice-aggregate-zeros-case-2 : tie.Need-slice-aggregate-zeros-case-2
-slice-aggregate-zeros-case-2 c = search needs
-
-slice-aggregate-zeros-case-3 : tie.Need-slice-aggregate-zeros-case-3
-slice-aggregate-zeros-case-3 c = sym (length-take-le _ _ (search needs))
-
-zeros-case-requires : tie.Need-zeros-case-requires
-zeros-case-requires c κs = search needs
-
 returns-2 : tie.Need-returns-2
 returns-2 c = search needs
+
+returns-3 : tie.Need-returns-3
+returns-3 c = search needs
+
+returns-4 : tie.Need-returns-4
+returns-4 c = search needs
+
+head-requires : tie.Need-head-requires
+head-requires c κs = search needs
+
+slice-aggregate-is-fit : tie.Need-slice-aggregate-is-fit
+slice-aggregate-is-fit c = search needs
+
+slice-aggregate-is-fit-2 : tie.Need-slice-aggregate-is-fit-2
+slice-aggregate-is-fit-2 c = search needs
+
+slice-aggregate-is-fit-3 : tie.Need-slice-aggregate-is-fit-3
+slice-aggregate-is-fit-3 c = sym (length-take-le _ _ (search needs))
+
+slice-aggregate-is-fit-4 : tie.Need-slice-aggregate-is-fit-4
+slice-aggregate-is-fit-4 c = sym (length-take-le _ _ (search needs))
+
+slice-aggregate-is-fit-5 : tie.Need-slice-aggregate-is-fit-5
+slice-aggregate-is-fit-5 c = sym (length-take-le _ _ (search needs))
+
+slice-aggregate-is-fit-6 : tie.Need-slice-aggregate-is-fit-6
+slice-aggregate-is-fit-6 c = sym (length-take-le _ _ (search needs))
+
+is-fit-requires : tie.Need-is-fit-requires
+is-fit-requires c κs = search needs
+
+answer-requires : tie.Need-answer-requires
+answer-requires c κs = search needs
+
+line-requires : tie.Need-line-requires
+line-requires c κs = search needs
+
+returns-5 : tie.Need-returns-5
+returns-5 c = search needs
 
 pub parties-case-spec : {M : Type 1} → statement M
 parties-case-spec =
     tie.close
     (tie.spec
     returns
-    unused-requires
-    slice-aggregate-zeros-case
-    slice-aggregate-zeros-case-2
-    slice-aggregate-zeros-case-3
-    zeros-case-requires
-    returns-2)
+    returns-2
+    returns-3
+    returns-4
+    head-requires
+    slice-aggregate-is-fit
+    slice-aggregate-is-fit-2
+    slice-aggregate-is-fit-3
+    slice-aggregate-is-fit-4
+    slice-aggregate-is-fit-5
+    slice-aggregate-is-fit-6
+    is-fit-requires
+    answer-requires
+    line-requires
+    returns-5)

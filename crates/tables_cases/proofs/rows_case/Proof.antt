@@ -10,8 +10,8 @@ returns c = search needs
 returns-2 : tie.Need-returns-2
 returns-2 c = search needs
 
-unused-requires : tie.Need-unused-requires
-unused-requires c κs = search needs
+head-requires : tie.Need-head-requires
+head-requires c κs = search needs
 
 slice-aggregate-unposted : tie.Need-slice-aggregate-unposted
 slice-aggregate-unposted c = sym (length-take-le _ _ (search needs))
@@ -34,7 +34,7 @@ rows-case-spec =
     (tie.spec
     returns
     returns-2
-    unused-requires
+    head-requires
     slice-aggregate-unposted
     slice-aggregate-unposted-2
     slice-aggregate-unposted-3
