@@ -26,7 +26,8 @@ use Rattle.tables.proofs.Laws.Rows.{rows-put, cell-put-same, cell-put-o
 -- ---- existing
 
 module _ (cells : List ℕ) (used : ℕ) where
-  existing-cases : (P : ℕ → Type 0) → (used < rows cells → P used) → (rows cells ≤ used → P (rows cells)) → P (existing cells used)
+  existing-cases :
+      (P : ℕ → Type 0) → (used < rows cells → P used) → (rows cells ≤ used → P (rows cells)) → P (existing cells used)
   existing-cases P low high =
       ⊎-elim
       (λ e. rw e (low (ltb-true used (rows cells) e)))
@@ -52,7 +53,9 @@ pub record Lowest (cells : List ℕ) (used number row : ℕ) : Type 0 where
   pub none-below : (j : ℕ) → j < row → numberAt cells j ≢ number
 
 module _ (cells : List ℕ) (used number : ℕ) where
-  pub lookup-cases : (P : Found → Type 0) → ((row : ℕ) → Lowest cells used number row → P (At row)) → (((j : ℕ) → j < existing cells used → numberAt cells j ≢ number) → P Nothing) → P (lookup cells used number)
+  pub lookup-cases :
+      (P : Found → Type 0) → ((row : ℕ) → Lowest cells used number row → P (At row))
+      → (((j : ℕ) → j < existing cells used → numberAt cells j ≢ number) → P Nothing) → P (lookup cells used number)
   unfolding lookup
   lookup-cases P found none =
       firstFrom-cases (numberIs cells number) At Nothing P (existing cells used)
@@ -66,7 +69,9 @@ module _ (cells : List ℕ) (used number : ℕ) where
       (λ below. none (λ j l. eqb-false (numberAt cells j) number (below j l)))
 
   -- the lookup as the loop begins it
-  pub lookup-walk : (n : ℕ) → n ≡ existing cells used → firstFrom (numberIs cells number) At Nothing 0 (n - 0) ≡ lookup cells used number
+  pub lookup-walk :
+      (n : ℕ) → n ≡ existing cells used
+      → firstFrom (numberIs cells number) At Nothing 0 (n - 0) ≡ lookup cells used number
   unfolding lookup
   lookup-walk n e = rw (all-left n, e)
 
@@ -134,7 +139,9 @@ module _ (cells : List ℕ) (row : ℕ) (fields : List ℕ) (e : length fields �
   pub numberAt-put-other : (other : ℕ) → other ≢ row → numberAt (putRow stride cells row fields) other ≡ numberAt cells other
   numberAt-put-other other ne = rw first-cell at (cell-put-other stride cells row fields e other 0 ne (omega arith))
 
-  same-number : row < rows cells → getD fields 0 0 ≡ numberAt cells row → (j : ℕ) → numberAt (putRow stride cells row fields) j ≡ numberAt cells j
+  same-number :
+      row < rows cells → getD fields 0 0 ≡ numberAt cells row → (j : ℕ)
+      → numberAt (putRow stride cells row fields) j ≡ numberAt cells j
   same-number h s j =
       ⊎-elim
       (λ q. let p = eqb-true j row q in rw p (numberAt-put-same h ∙ s))
@@ -142,7 +149,9 @@ module _ (cells : List ℕ) (row : ℕ) (fields : List ℕ) (e : length fields �
       (true-or-false (eqb j row))
 
   -- a row that keeps its number: every lookup stays
-  pub lookup-put-kept : row < rows cells → getD fields 0 0 ≡ numberAt cells row → (used number : ℕ) → lookup (putRow stride cells row fields) used number ≡ lookup cells used number
+  pub lookup-put-kept :
+      row < rows cells → getD fields 0 0 ≡ numberAt cells row → (used number : ℕ)
+      → lookup (putRow stride cells row fields) used number ≡ lookup cells used number
   unfolding lookup
   lookup-put-kept h s used number =
       rw (rows-put stride cells row fields)
@@ -150,7 +159,9 @@ module _ (cells : List ℕ) (row : ℕ) (fields : List ℕ) (e : length fields �
       (λ k l. ap (λ (n : ℕ). eqb n number) (same-number h s k)))
 
   -- a row at the next place: the lookup goes on there
-  pub lookup-put-next : row < rows cells → (number : ℕ) → lookup (putRow stride cells row fields) (row + 1) number ≡ orElse (lookup cells row number) (cond (eqb (getD fields 0 0) number) (At row) Nothing)
+  pub lookup-put-next :
+      row < rows cells → (number : ℕ)
+      → lookup (putRow stride cells row fields) (row + 1) number ≡ orElse (lookup cells row number) (cond (eqb (getD fields 0 0) number) (At row) Nothing)
   unfolding lookup
   lookup-put-next h number =
       let room : row + 1 ≤ rows (putRow stride cells row fields) = rw (rows-put stride cells row fields) (omega arith) in
