@@ -1,5 +1,5 @@
 -- Laws of specs/Lookup: a row that is found is the lowest used one of its number, and what a written row does to a lookup.
--- To cite: `Lowest` with `lookup-at` and `lookup-made`, `lookup-nothing`, `lookup-none`, `lookup-put-kept`,
+-- To cite: `Lowest` with `lookup-at` and `lookup-made`, `lookup-used`, `lookup-lent`, `lookup-nothing`, `lookup-none`, `lookup-put-kept`,
 -- `lookup-put-next`, `mandateAt-number`, `collectionAt-number`. Assumes nothing.
 use mathlib.Core.Path.{_≡_, refl, sym, _∙_, ap}
 use mathlib.Core.Bool.{Bool, cond}
@@ -80,6 +80,13 @@ module _ (cells : List ℕ) (used number : ℕ) where
       lookup-cases (λ (f : Found). f ≡ At row → Lowest cells used number row)
       (λ k low e. let s : k ≡ row = cc in rw (← s) low)
       (λ none e. let z : _≡_ {A = ℕ} 0 1 = cc in absurd (omega arith))
+
+  -- a row that is found is a used one, and lent
+  pub lookup-used : (row : ℕ) → lookup cells used number ≡ At row → row < used
+  lookup-used row e = omega (arith, lookup-at row e .existing-row, existing-used cells used)
+
+  pub lookup-lent : (row : ℕ) → lookup cells used number ≡ At row → row < rows cells
+  lookup-lent row e = omega (arith, lookup-at row e .existing-row, existing-rows cells used)
 
   pub lookup-nothing : lookup cells used number ≡ Nothing → (j : ℕ) → j < existing cells used → numberAt cells j ≢ number
   lookup-nothing =
