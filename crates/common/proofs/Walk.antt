@@ -1,7 +1,7 @@
 -- Laws of specs/Walk. Names: F-hit, F-miss, F-end are the steps of a loop that walks from i up to n; F-same: two tests that
 -- agree give one answer. To cite besides: `allFrom-at`, `allFrom-made`, and `firstFrom-cases`, from which all else of a
 -- search follows. Assumes nothing.
-use mathlib.Core.Path.{_≡_, refl, sym, _∙_, ap}
+use mathlib.Core.Path.{_≡_, refl}
 use mathlib.Core.Bool.{Bool, true, false, cond}
 use mathlib.Core.Logic.{⊎-elim}
 use Prim.Native.Nat.{ℕ, zero, suc, _+_, _-_, _≤_, _<_}
@@ -67,7 +67,8 @@ module _ {A : Type 0} (t : ℕ → Bool) (hit : ℕ → A) (miss : A) where
   unfolding firstFrom
   firstFrom-hit i n h e = rw (one-more i n h, e)
 
-  pub firstFrom-miss : (i n : ℕ) → i < n → t i ≡ false → firstFrom t hit miss i (n - i) ≡ firstFrom t hit miss (i + 1) (n - (i + 1))
+  pub firstFrom-miss :
+      (i n : ℕ) → i < n → t i ≡ false → firstFrom t hit miss i (n - i) ≡ firstFrom t hit miss (i + 1) (n - (i + 1))
   unfolding firstFrom
   firstFrom-miss i n h e = rw (one-more i n h, e)
 
@@ -75,7 +76,10 @@ module _ {A : Type 0} (t : ℕ → Bool) (hit : ℕ → A) (miss : A) where
   unfolding firstFrom
   firstFrom-end i n h = rw (none-left i n h)
 
-  cases-from : (P : A → Type 0) (i left : ℕ) → ((k : ℕ) → i ≤ k → k < i + left → t k ≡ true → ((j : ℕ) → i ≤ j → j < k → t j ≡ false) → P (hit k)) → (((j : ℕ) → i ≤ j → j < i + left → t j ≡ false) → P miss) → P (firstFrom t hit miss i left)
+  cases-from :
+      (P : A → Type 0) (i left : ℕ)
+      → ((k : ℕ) → i ≤ k → k < i + left → t k ≡ true → ((j : ℕ) → i ≤ j → j < k → t j ≡ false) → P (hit k))
+      → (((j : ℕ) → i ≤ j → j < i + left → t j ≡ false) → P miss) → P (firstFrom t hit miss i left)
   unfolding firstFrom
   cases-from P i zero found none = none (λ j lo hi. absurd (omega arith))
   cases-from P i (suc left) found none =
@@ -90,31 +94,41 @@ module _ {A : Type 0} (t : ℕ → Bool) (hit : ℕ → A) (miss : A) where
       (true-or-false (t i))
 
   -- what holds of a hit at the first number that passes, and of a miss where none passes, holds of the search
-  pub firstFrom-cases : (P : A → Type 0) (n : ℕ) → ((k : ℕ) → k < n → t k ≡ true → ((j : ℕ) → j < k → t j ≡ false) → P (hit k)) → (((j : ℕ) → j < n → t j ≡ false) → P miss) → P (firstFrom t hit miss 0 n)
+  pub firstFrom-cases :
+      (P : A → Type 0) (n : ℕ) → ((k : ℕ) → k < n → t k ≡ true → ((j : ℕ) → j < k → t j ≡ false) → P (hit k))
+      → (((j : ℕ) → j < n → t j ≡ false) → P miss) → P (firstFrom t hit miss 0 n)
   firstFrom-cases P n found none =
       cases-from P 0 n
       (λ k lo hi e below. found k (omega arith) e (λ j h. below j (omega arith) h))
       (λ below. none (λ j h. below j (omega arith) (omega arith)))
 
 -- one number more: the search goes on where the shorter one misses
-pub firstFrom-more : {A : Type 0} (t : ℕ → Bool) (hit : ℕ → A) (miss : A) (i left : ℕ) → firstFrom t hit miss i (suc left) ≡ firstFrom t hit (cond (t (i + left)) (hit (i + left)) miss) i left
+pub firstFrom-more :
+    {A : Type 0} (t : ℕ → Bool) (hit : ℕ → A) (miss : A) (i left : ℕ)
+    → firstFrom t hit miss i (suc left) ≡ firstFrom t hit (cond (t (i + left)) (hit (i + left)) miss) i left
 unfolding firstFrom
 firstFrom-more t hit miss i zero = rw (add-zero i)
 firstFrom-more t hit miss i (suc left) =
     let e : i + suc left ≡ i + 1 + left = omega arith in
     rw (e, firstFrom-more t hit miss (i + 1) left)
 
-same-from : {A : Type 0} (t u : ℕ → Bool) (hit : ℕ → A) (miss : A) (i left : ℕ) → ((k : ℕ) → i ≤ k → k < i + left → t k ≡ u k) → firstFrom t hit miss i left ≡ firstFrom u hit miss i left
+same-from :
+    {A : Type 0} (t u : ℕ → Bool) (hit : ℕ → A) (miss : A) (i left : ℕ) → ((k : ℕ) → i ≤ k → k < i + left → t k ≡ u k)
+    → firstFrom t hit miss i left ≡ firstFrom u hit miss i left
 unfolding firstFrom
 same-from t u hit miss i zero f = refl
 same-from t u hit miss i (suc left) f =
     rw (f i (omega arith) (omega arith), same-from t u hit miss (i + 1) left (λ k lo hi. f k (omega arith) (omega arith)))
 
-pub firstFrom-same : {A : Type 0} (t u : ℕ → Bool) (hit : ℕ → A) (miss : A) (n : ℕ) → ((k : ℕ) → k < n → t k ≡ u k) → firstFrom t hit miss 0 n ≡ firstFrom u hit miss 0 n
+pub firstFrom-same :
+    {A : Type 0} (t u : ℕ → Bool) (hit : ℕ → A) (miss : A) (n : ℕ) → ((k : ℕ) → k < n → t k ≡ u k)
+    → firstFrom t hit miss 0 n ≡ firstFrom u hit miss 0 n
 firstFrom-same t u hit miss n f = same-from t u hit miss 0 n (λ k lo hi. f k (omega arith))
 
 -- a function of the answer is the search for its values
-pub firstFrom-through : {A B : Type 0} (f : A → B) (t : ℕ → Bool) (hit : ℕ → A) (miss : A) (i left : ℕ) → f (firstFrom t hit miss i left) ≡ firstFrom t (λ k. f (hit k)) (f miss) i left
+pub firstFrom-through :
+    {A B : Type 0} (f : A → B) (t : ℕ → Bool) (hit : ℕ → A) (miss : A) (i left : ℕ)
+    → f (firstFrom t hit miss i left) ≡ firstFrom t (λ k. f (hit k)) (f miss) i left
 unfolding firstFrom
 firstFrom-through f t hit miss i zero = refl
 firstFrom-through f t hit miss i (suc left) =

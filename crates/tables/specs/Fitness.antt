@@ -102,11 +102,11 @@ rowsFit test cells used = allFrom (rowFit test cells) 0 used
 -- the cells of a mandate, in the order of specs/Records
 abbrev pub mandateTests : List ℕ → List ℕ → List Bool
 mandateTests creditors fields =
-    within 1 numberLimit (getD fields 0 0)
-    ∷ within 1 creditorCount (getD fields 1 0)
-    ∷ added creditors (getD fields 1 0)
-    ∷ within 1 debtorCount (getD fields 2 0)
-    ∷ within 1 bankCount (getD fields 3 0)
+    within 1 numberLimit (getD fields 0 0)  -- its number
+    ∷ within 1 creditorCount (getD fields 1 0)  -- creditor
+    ∷ added creditors (getD fields 1 0)  -- who exists
+    ∷ within 1 debtorCount (getD fields 2 0)  -- debtor
+    ∷ within 1 bankCount (getD fields 3 0)  -- debtor bank
     ∷ inRange (getD fields 4 0)  -- signing date
     ∷ leb (getD fields 5 0) 1  -- recurrent or one-off
     ∷ leb (getD fields 6 0) 2  -- live, closed or cancelled
@@ -124,16 +124,16 @@ dayFit latest tag day = leb tag 1 || (inRange day && leb day latest)
 -- the cells of a collection, in the order of specs/Records
 abbrev pub collectionTests : ℕ → List ℕ → List ℕ → List Bool
 collectionTests latest creditors fields =
-    within 1 numberLimit (getD fields 0 0)
-    ∷ within 1 creditorCount (getD fields 1 0)
-    ∷ added creditors (getD fields 1 0)
-    ∷ within 1 debtorCount (getD fields 2 0)
-    ∷ within 1 bankCount (getD fields 3 0)
-    ∷ within 1 bankCount (getD fields 4 0)
-    ∷ within 1 amountLimit (getD fields 5 0)
+    within 1 numberLimit (getD fields 0 0)  -- its number
+    ∷ within 1 creditorCount (getD fields 1 0)  -- creditor
+    ∷ added creditors (getD fields 1 0)  -- who exists
+    ∷ within 1 debtorCount (getD fields 2 0)  -- debtor
+    ∷ within 1 bankCount (getD fields 3 0)  -- creditor bank
+    ∷ within 1 bankCount (getD fields 4 0)  -- debtor bank
+    ∷ within 1 amountLimit (getD fields 5 0)  -- cents
     ∷ inRange (getD fields 6 0)  -- kept due
     ∷ leb (getD fields 7 0) 5  -- the six states
-    ∷ dayFit latest (getD fields 7 0) (getD fields 8 0)
+    ∷ dayFit latest (getD fields 7 0) (getD fields 8 0)  -- the state's day
     ∷ []
 
 unfoldable pub collectionFit : ℕ → List ℕ → List ℕ → Bool
@@ -164,6 +164,7 @@ positionsFit positions = allFrom (positionFitAt positions) 0 (length positions)
 
 -- ---- all of it
 
+-- all that is used: each mandate row, each collection row, each creditor, the positions of debtors and banks
 abbrev pub contentTests : Ledger → List Bool
 contentTests l =
     rowsFit (mandateFit (l .creditors)) (l .mandates) (l .mandatesUsed)

@@ -13,6 +13,7 @@ pub fn bank_of(creditors: &[u64], number: u64) -> u64
     if i < creditors.len() { creditors[i] } else { 0 }
 }
 
+// Whether a creditor exists.
 pub fn is_added(creditors: &[u64], number: u64) -> bool
     ensures { λ r. ⌜ r ≡ added (now (creditors .entry)) number ⌝ }
 {

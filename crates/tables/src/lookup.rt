@@ -5,7 +5,7 @@ use crate::Found;
 use crate::rows::STRIDE;
 
 // The used rows that there are.
-pub fn existing_of(cells: &[u64], used: usize) -> usize
+fn existing_of(cells: &[u64], used: usize) -> usize
     ensures { λ r. ⌜ r ≡ existing (now (cells .entry)) used ⌝ }
 {
     let rows = cells.len() / STRIDE;

@@ -40,7 +40,7 @@ pub fn open_ledger(
     debtor_positions: &mut [i64],
     bank_positions: &mut [i64],
 ) -> OpenOutcome
-    ensures { λ r. ⌜ outcome (openNumber (r .answer)) (ledger (r .header) (now (mandates .entry)) (now (collections .entry)) (now (creditors .exit)) (now («creditor_positions» .exit)) (now («debtor_positions» .exit)) (now («bank_positions» .exit)))
+    ensures { λ r. ⌜ outcome (openNumber (r .answer)) (ledger (r .header) (now (mandates .exit)) (now (collections .exit)) (now (creditors .exit)) (now («creditor_positions» .exit)) (now («debtor_positions» .exit)) (now («bank_positions» .exit)))
         ≡ opening (ledger header (now (mandates .entry)) (now (collections .entry)) (now (creditors .entry)) (now («creditor_positions» .entry)) (now («debtor_positions» .entry)) (now («bank_positions» .entry))) ⌝ }
 {
     if !sizes_fit(

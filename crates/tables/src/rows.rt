@@ -3,7 +3,7 @@ ghost use mathlib.Core.Path.{_≡_};
 ghost use Prim.Native.Nat.{_+_, _*_, _<_};
 ghost use lib.ListN.{getD};
 ghost use Rattle.tables.specs.Limits.{stride};
-ghost use Rattle.tables.specs.Records.{standingTag, standingOf, flagCell, flagOf, mandateCells, stateTag, stateDay, stateOf, collectionCells};
+ghost use Rattle.tables.specs.Records.{standingTag, standingOf, flagCell, mandateCells, stateTag, stateDay, stateOf, collectionCells};
 ghost use Rattle.tables.specs.Rows.{rows, putRow, mandateAt, putMandate, collectionAt, putCollection};
 use crate::Collection;
 use crate::Mandate;
@@ -76,6 +76,7 @@ fn flag_cell(first: bool) -> u64
     if first { 1 } else { 0 }
 }
 
+// The mandate of a row. A row past the end reads as cells of 0.
 pub fn mandate_at(cells: &[u64], row: usize) -> Mandate
     ensures { λ r. ⌜ r ≡ mandateAt (now (cells .entry)) row ⌝ }
 {
@@ -93,6 +94,7 @@ pub fn mandate_at(cells: &[u64], row: usize) -> Mandate
     }
 }
 
+// The cells of a mandate, in the order of specs/Records.
 fn mandate_cells(m: Mandate) -> [u64; STRIDE]
     ensures { λ r. ⌜ r ≡ mandateCells m ⌝ }
 {
@@ -112,6 +114,7 @@ fn mandate_cells(m: Mandate) -> [u64; STRIDE]
     ]
 }
 
+// The mandate over the cells of a row.
 pub fn put_mandate(cells: &mut [u64], row: usize, m: Mandate)
     ensures { λ _. ⌜ now (cells .exit) ≡ putMandate (now (cells .entry)) row m ⌝ }
 {
@@ -157,6 +160,7 @@ fn state_day(s: State) -> u64
     }
 }
 
+// The collection of a row. A row past the end reads as cells of 0.
 pub fn collection_at(cells: &[u64], row: usize) -> Collection
     ensures { λ r. ⌜ r ≡ collectionAt (now (cells .entry)) row ⌝ }
 {
@@ -173,6 +177,7 @@ pub fn collection_at(cells: &[u64], row: usize) -> Collection
     }
 }
 
+// The cells of a collection, in the order of specs/Records.
 fn collection_cells(c: Collection) -> [u64; STRIDE]
     ensures { λ r. ⌜ r ≡ collectionCells c ⌝ }
 {
@@ -192,6 +197,7 @@ fn collection_cells(c: Collection) -> [u64; STRIDE]
     ]
 }
 
+// The collection over the cells of a row.
 pub fn put_collection(cells: &mut [u64], row: usize, c: Collection)
     ensures { λ _. ⌜ now (cells .exit) ≡ putCollection (now (cells .entry)) row c ⌝ }
 {

@@ -3,18 +3,17 @@
 -- and `rowsFit-put-next` (a fit table with a fit row put in it is fit), `rowsFit-implies`, and what an event may change:
 -- `mandateFit-added`, `collectionFit-added`, `collectionFit-later`, `creditorsFit-added`, `creditorsFit-posted`,
 -- `positionsFit-posted`. Assumes nothing.
-use mathlib.Core.Path.{_≡_, refl, sym, _∙_, ap}
+use mathlib.Core.Path.{_≡_, refl, _∙_, ap}
 use mathlib.Core.Bool.{Bool, true, false, not, _&&_, _||_}
 use mathlib.Core.List.{List, [], _∷_}
-use mathlib.Core.Logic.{_≢_, _⊎_, inl, inr, ⊎-elim}
-use Prim.Native.Nat.{ℕ, zero, suc, _+_, _-_, _*_, _%_, _≤_, _<_}
+use mathlib.Core.Logic.{_≢_, _⊎_, ⊎-elim}
+use Prim.Native.Nat.{ℕ, zero, suc, _+_, _-_, _%_, _≤_, _<_}
 use native.Mathlib.Omega.{arith}
-use borrow.Author.Tests.{leb-true, leb-false, le-leb, lt-leb, eqb-true, eqb-false, eq-eqb, ne-eqb, ltb-true, ltb-false}
+use borrow.Author.Tests.{leb-true, le-leb, eqb-true, eqb-false, eq-eqb, ltb-true, ltb-false}
 use lib.Dec.{eqb, leb, ltb}
 use lib.IntN.{ℤ, pos, negsuc, natAbs}
 use lib.ListN.{length, getD, set, length-set}
-use lib.Seq.{getD-set-same, getD-set-other, set-out}
-use lib.Signed.{leZ}
+use lib.Seq.{getD-set-same, getD-set-other}
 use Rattle.common.specs.Tests.{allOf}
 use Rattle.common.specs.Walk.{allFrom}
 use Rattle.common.proofs.Tests.{never, true-or-false, and-halves, and-true, or-cases, allOf-at}
@@ -27,11 +26,10 @@ use Rattle.tables.specs.declared.Standing.the-variants.{Live, Closed, Ca
 use Rattle.tables.specs.declared.Collection.{Collection}
 use Rattle.tables.specs.declared.State.{State}
 use Rattle.tables.specs.declared.State.the-variants.{Presented, Rejected, Settled, Undone}
-use Rattle.tables.specs.declared.Undoing.{Undoing}
 use Rattle.tables.specs.declared.Undoing.the-variants.{Return, Refund, Reversal}
 use Rattle.tables.specs.Limits.{creditorCount, debtorCount, bankCount, numberLimit, amountLimit, mandateRowLimit, collectionRowLimit, stride, positionLimit}
 use Rattle.tables.specs.Records.{standingTag, flagCell, mandateCells, mandateOf, stateTag, stateDay, stateOf, collectionCells, collectionOf}
-use Rattle.tables.specs.Rows.{rows, rowAt, putRow, mandateAt, collectionAt}
+use Rattle.tables.specs.Rows.{rows, rowAt, putRow, mandateAt, putMandate, collectionAt, putCollection}
 use Rattle.tables.specs.Ledger.{Ledger, bankOf, added}
 use Rattle.tables.specs.Fitness.{within, noneOrDate, positionFit, compensationFit, isZero, rowCountFit, sizeTests, sizesOf, sizesFit, headerTests, headerOf, headerFit, rowFit, rowsFit, mandateTests, mandateFit, dayFit, collectionTests, collectionFit, creditorTests, creditorFit, creditorFitAt, creditorsFit, positionFitAt, positionsFit, contentTests, fit}
 use Rattle.tables.proofs.Laws.Rows.{rowAt-put-same, rowAt-put-other}
@@ -176,7 +174,10 @@ module _ (test : List ℕ → Bool) (cells : List ℕ) where
   rowsFit-made used f = allFrom-made (rowFit test cells) used f
 
   -- a row put among `more` rows of which each other one passed
-  rowsFit-put : (used more row : ℕ) (fields : List ℕ) → length fields ≡ stride → rowsFit test cells used ≡ true → test fields ≡ true → row < rows cells → ((k : ℕ) → k < more → k ≢ row → k < used) → allFrom (rowFit test (putRow stride cells row fields)) 0 more ≡ true
+  rowsFit-put :
+      (used more row : ℕ) (fields : List ℕ) → length fields ≡ stride → rowsFit test cells used ≡ true
+      → test fields ≡ true → row < rows cells → ((k : ℕ) → k < more → k ≢ row → k < used)
+      → allFrom (rowFit test (putRow stride cells row fields)) 0 more ≡ true
   rowsFit-put used more row fields n e t h old =
       allFrom-made (rowFit test (putRow stride cells row fields)) more
       (λ k l.
@@ -190,18 +191,25 @@ module _ (test : List ℕ → Bool) (cells : List ℕ) where
       (true-or-false (eqb k row)))
 
   -- at a used row
-  pub rowsFit-put-used : (used row : ℕ) (fields : List ℕ) → length fields ≡ stride → rowsFit test cells used ≡ true → test fields ≡ true → row < rows cells → rowsFit test (putRow stride cells row fields) used ≡ true
+  pub rowsFit-put-used :
+      (used row : ℕ) (fields : List ℕ) → length fields ≡ stride → rowsFit test cells used ≡ true → test fields ≡ true
+      → row < rows cells → rowsFit test (putRow stride cells row fields) used ≡ true
   unfolding rowsFit
   rowsFit-put-used used row fields n e t h = rowsFit-put used used row fields n e t h (λ k l ne. l)
 
   -- at the next row
-  pub rowsFit-put-next : (used : ℕ) (fields : List ℕ) → length fields ≡ stride → rowsFit test cells used ≡ true → test fields ≡ true → used < rows cells → rowsFit test (putRow stride cells used fields) (used + 1) ≡ true
+  pub rowsFit-put-next :
+      (used : ℕ) (fields : List ℕ) → length fields ≡ stride → rowsFit test cells used ≡ true → test fields ≡ true
+      → used < rows cells → rowsFit test (putRow stride cells used fields) (used + 1) ≡ true
   unfolding rowsFit
   rowsFit-put-next used fields n e t h =
       rowsFit-put used (used + 1) used fields n e t h (λ k l ne. omega (arith, ne))
 
 -- a test that follows from another one passes wherever that did
-pub rowsFit-implies : (test other : List ℕ → Bool) (cells : List ℕ) (used : ℕ) → ((fields : List ℕ) → test fields ≡ true → other fields ≡ true) → rowsFit test cells used ≡ true → rowsFit other cells used ≡ true
+pub rowsFit-implies :
+    (test other : List ℕ → Bool) (cells : List ℕ) (used : ℕ)
+    → ((fields : List ℕ) → test fields ≡ true → other fields ≡ true) → rowsFit test cells used ≡ true
+    → rowsFit other cells used ≡ true
 rowsFit-implies test other cells used f e =
     rowsFit-made other cells used (λ row h. f (rowAt stride cells row) (rowsFit-at test cells used e row h))
 
@@ -284,7 +292,9 @@ pub day-made : (latest day : ℕ) → DayFit latest day → inRange day && leb d
 day-made latest day d = and-true (d .date) (le-leb day latest (d .to))
 
 -- the state read from a row that fits has a day that fits
-state-read : (latest tag day : ℕ) → tag ≤ 5 → dayFit latest tag day ≡ true → dayFit latest (stateTag (stateOf tag day)) (stateDay (stateOf tag day)) ≡ true
+state-read :
+    (latest tag day : ℕ) → tag ≤ 5 → dayFit latest tag day ≡ true
+    → dayFit latest (stateTag (stateOf tag day)) (stateDay (stateOf tag day)) ≡ true
 state-read latest zero day h e = refl
 state-read latest (suc zero) day h e = refl
 state-read latest (suc (suc zero)) day h e = e
@@ -301,7 +311,9 @@ tag-fit (Undone day Return) = refl
 tag-fit (Undone day Refund) = refl
 tag-fit (Undone day Reversal) = refl
 
-pub collection-facts : (latest : ℕ) (creditors fields : List ℕ) → collectionFit latest creditors fields ≡ true → CollectionFit latest creditors (collectionOf fields)
+pub collection-facts :
+    (latest : ℕ) (creditors fields : List ℕ) → collectionFit latest creditors fields ≡ true
+    → CollectionFit latest creditors (collectionOf fields)
 unfolding collectionFit collectionOf
 collection-facts latest creditors fields e =
     let at : (k : ℕ) → getD (collectionTests latest creditors fields) k true ≡ true = λ k. allOf-at (collectionTests latest creditors fields) k e in
@@ -317,7 +329,9 @@ collection-facts latest creditors fields e =
       state-fit = state-read latest (getD fields 7 0) (getD fields 8 0) (leb-true (getD fields 7 0) 5 (at 8)) (at 9);
     }
 
-pub collection-made : (latest : ℕ) (creditors : List ℕ) (c : Collection) → CollectionFit latest creditors c → collectionFit latest creditors (collectionCells c) ≡ true
+pub collection-made :
+    (latest : ℕ) (creditors : List ℕ) (c : Collection) → CollectionFit latest creditors c
+    → collectionFit latest creditors (collectionCells c) ≡ true
 unfolding collectionFit
 collection-made latest creditors c f =
     allOf-made (collectionTests latest creditors (collectionCells c))
@@ -331,6 +345,34 @@ collection-made latest creditors c f =
     (f .due-date)
     (tag-fit (c .state))
     (f .state-fit)
+
+-- ---- a fit record put in a fit table
+
+module _ (creditors cells : List ℕ) (used : ℕ) (m : Mandate) (f : MandateFit creditors m) where
+  pub mandates-put-used :
+      (row : ℕ) → rowsFit (mandateFit creditors) cells used ≡ true → row < rows cells
+      → rowsFit (mandateFit creditors) (putMandate cells row m) used ≡ true
+  mandates-put-used row e h =
+      rowsFit-put-used (mandateFit creditors) cells used row (mandateCells m) refl e (mandate-made creditors m f) h
+
+  pub mandates-put-next :
+      rowsFit (mandateFit creditors) cells used ≡ true → used < rows cells
+      → rowsFit (mandateFit creditors) (putMandate cells used m) (used + 1) ≡ true
+  mandates-put-next e h =
+      rowsFit-put-next (mandateFit creditors) cells used (mandateCells m) refl e (mandate-made creditors m f) h
+
+module _ (latest : ℕ) (creditors cells : List ℕ) (used : ℕ) (c : Collection) (f : CollectionFit latest creditors c) where
+  pub collections-put-used :
+      (row : ℕ) → rowsFit (collectionFit latest creditors) cells used ≡ true → row < rows cells
+      → rowsFit (collectionFit latest creditors) (putCollection cells row c) used ≡ true
+  collections-put-used row e h =
+      rowsFit-put-used (collectionFit latest creditors) cells used row (collectionCells c) refl e (collection-made latest creditors c f) h
+
+  pub collections-put-next :
+      rowsFit (collectionFit latest creditors) cells used ≡ true → used < rows cells
+      → rowsFit (collectionFit latest creditors) (putCollection cells used c) (used + 1) ≡ true
+  collections-put-next e h =
+      rowsFit-put-next (collectionFit latest creditors) cells used (collectionCells c) refl e (collection-made latest creditors c f) h
 
 -- ---- what keeps a row fit
 
@@ -348,7 +390,9 @@ dayFit-later latest tag day later h e =
     (or-cases (leb tag 1) e)
 
 -- a creditor gets a bank
-pub mandateFit-added : (creditors : List ℕ) (i bank : ℕ) → bank ≢ 0 → (fields : List ℕ) → mandateFit creditors fields ≡ true → mandateFit (set creditors i bank) fields ≡ true
+pub mandateFit-added :
+    (creditors : List ℕ) (i bank : ℕ) → bank ≢ 0 → (fields : List ℕ) → mandateFit creditors fields ≡ true
+    → mandateFit (set creditors i bank) fields ≡ true
 unfolding mandateFit
 mandateFit-added creditors i bank b fields e =
     let at : (k : ℕ) → getD (mandateTests creditors fields) k true ≡ true = λ k. allOf-at (mandateTests creditors fields) k e in
@@ -435,16 +479,22 @@ module _ (bank : ℕ) (position : ℤ) where
       allOf-made (creditorTests bank position) (le-leb bank bankCount high) p (ap (λ (b : Bool). b || isZero position) (le-leb 1 bank low))
 
 module _ (creditors : List ℕ) (positions : List ℤ) where
-  pub creditorsFit-at : creditorsFit creditors positions ≡ true → (i : ℕ) → i < length creditors → CreditorFit (getD creditors i 0) (getD positions i (pos 0))
+  pub creditorsFit-at :
+      creditorsFit creditors positions ≡ true → (i : ℕ) → i < length creditors
+      → CreditorFit (getD creditors i 0) (getD positions i (pos 0))
   unfolding creditorsFit
   creditorsFit-at e i h =
       creditor-facts (getD creditors i 0) (getD positions i (pos 0)) (allFrom-at (creditorFitAt creditors positions) (length creditors) e i h)
 
-  pub creditorsFit-made : ((i : ℕ) → i < length creditors → creditorFit (getD creditors i 0) (getD positions i (pos 0)) ≡ true) → creditorsFit creditors positions ≡ true
+  pub creditorsFit-made :
+      ((i : ℕ) → i < length creditors → creditorFit (getD creditors i 0) (getD positions i (pos 0)) ≡ true)
+      → creditorsFit creditors positions ≡ true
   unfolding creditorsFit
   creditorsFit-made f = allFrom-made (creditorFitAt creditors positions) (length creditors) f
 
-  test-entry : creditorsFit creditors positions ≡ true → (i : ℕ) → i < length creditors → creditorFit (getD creditors i 0) (getD positions i (pos 0)) ≡ true
+  test-entry :
+      creditorsFit creditors positions ≡ true → (i : ℕ) → i < length creditors
+      → creditorFit (getD creditors i 0) (getD positions i (pos 0)) ≡ true
   unfolding creditorsFit
   test-entry e i h = allFrom-at (creditorFitAt creditors positions) (length creditors) e i h
 
@@ -462,7 +512,9 @@ module _ (creditors : List ℕ) (positions : List ℤ) where
       (true-or-false (eqb number 0))
 
 -- a creditor is added
-pub creditorsFit-added : (creditors : List ℕ) (positions : List ℤ) (i bank : ℕ) → creditorsFit creditors positions ≡ true → 1 ≤ bank → bank ≤ bankCount → creditorsFit (set creditors i bank) positions ≡ true
+pub creditorsFit-added :
+    (creditors : List ℕ) (positions : List ℤ) (i bank : ℕ) → creditorsFit creditors positions ≡ true → 1 ≤ bank
+    → bank ≤ bankCount → creditorsFit (set creditors i bank) positions ≡ true
 creditorsFit-added creditors positions i bank e low high =
     creditorsFit-made (set creditors i bank) positions
     (λ k h.
@@ -477,7 +529,10 @@ creditorsFit-added creditors positions i bank e low high =
     (true-or-false (eqb k i)))
 
 -- an added creditor's position changes
-pub creditorsFit-posted : (creditors : List ℕ) (positions : List ℤ) (i : ℕ) (z : ℤ) → creditorsFit creditors positions ≡ true → i < length positions → 1 ≤ getD creditors i 0 → positionFit z ≡ true → creditorsFit creditors (set positions i z) ≡ true
+pub creditorsFit-posted :
+    (creditors : List ℕ) (positions : List ℤ) (i : ℕ) (z : ℤ) → creditorsFit creditors positions ≡ true
+    → i < length positions → 1 ≤ getD creditors i 0 → positionFit z ≡ true
+    → creditorsFit creditors (set positions i z) ≡ true
 creditorsFit-posted creditors positions i z e room low f =
     creditorsFit-made creditors (set positions i z)
     (λ k h.
@@ -493,16 +548,20 @@ creditorsFit-posted creditors positions i z e room low f =
 -- ---- positions of debtors and banks
 
 module _ (positions : List ℤ) where
-  pub positionsFit-at : positionsFit positions ≡ true → (i : ℕ) → i < length positions → positionFit (getD positions i (pos 0)) ≡ true
+  pub positionsFit-at :
+      positionsFit positions ≡ true → (i : ℕ) → i < length positions → positionFit (getD positions i (pos 0)) ≡ true
   unfolding positionsFit
   positionsFit-at e i h = allFrom-at (positionFitAt positions) (length positions) e i h
 
-  pub positionsFit-made : ((i : ℕ) → i < length positions → positionFit (getD positions i (pos 0)) ≡ true) → positionsFit positions ≡ true
+  pub positionsFit-made :
+      ((i : ℕ) → i < length positions → positionFit (getD positions i (pos 0)) ≡ true) → positionsFit positions ≡ true
   unfolding positionsFit
   positionsFit-made f = allFrom-made (positionFitAt positions) (length positions) f
 
 -- a position changes
-pub positionsFit-posted : (positions : List ℤ) (i : ℕ) (z : ℤ) → positionsFit positions ≡ true → positionFit z ≡ true → positionsFit (set positions i z) ≡ true
+pub positionsFit-posted :
+    (positions : List ℤ) (i : ℕ) (z : ℤ) → positionsFit positions ≡ true → positionFit z ≡ true
+    → positionsFit (set positions i z) ≡ true
 positionsFit-posted positions i z e f =
     positionsFit-made (set positions i z)
     (λ k h.
@@ -568,7 +627,9 @@ module _ (l : Ledger) where
       mandate-facts (l .creditors) (rowAt stride (l .mandates) row)
       (rowsFit-at (mandateFit (l .creditors)) (l .mandates) (l .mandatesUsed) (fit-facts e .mandates) row h)
 
-  pub fit-collection : fit l ≡ true → (row : ℕ) → row < l .collectionsUsed → CollectionFit (l .latest) (l .creditors) (collectionAt (l .collections) row)
+  pub fit-collection :
+      fit l ≡ true → (row : ℕ) → row < l .collectionsUsed
+      → CollectionFit (l .latest) (l .creditors) (collectionAt (l .collections) row)
   unfolding collectionAt
   fit-collection e row h =
       collection-facts (l .latest) (l .creditors) (rowAt stride (l .collections) row)

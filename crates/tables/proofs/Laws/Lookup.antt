@@ -1,15 +1,15 @@
 -- Laws of specs/Lookup: a row that is found is the lowest used one of its number, and what a written row does to a lookup.
--- To cite: `Lowest` with `lookup-at` and `lookup-made`, `lookup-nothing`, `lookup-none`, `lookup-put-kept`,
--- `lookup-put-next`. Assumes nothing.
+-- To cite: `Lowest` with `lookup-at` and `lookup-made`, `lookup-used`, `lookup-lent`, `lookup-nothing`, `lookup-none`, `lookup-put-kept`,
+-- `lookup-put-next`, `mandateAt-number`, `collectionAt-number`. Assumes nothing.
 use mathlib.Core.Path.{_≡_, refl, sym, _∙_, ap}
-use mathlib.Core.Bool.{Bool, true, false, cond}
+use mathlib.Core.Bool.{Bool, cond}
 use mathlib.Core.List.{List}
 use mathlib.Core.Logic.{_≢_, ⊎-elim}
-use Prim.Native.Nat.{ℕ, suc, _+_, _-_, _*_, _≤_, _<_}
+use Prim.Native.Nat.{ℕ, _+_, _-_, _*_, _≤_, _<_}
 use native.Mathlib.Nat.{add-zero}
 use native.Mathlib.Numerals.{add-one}
 use native.Mathlib.Omega.{arith}
-use borrow.Author.Tests.{ltb-true, ltb-false, lt-ltb, le-ltb, eqb-true, eqb-false, eq-eqb, ne-eqb}
+use borrow.Author.Tests.{ltb-true, ltb-false, eqb-true, eqb-false}
 use lib.Dec.{eqb, ltb}
 use lib.ListN.{length, getD}
 use Rattle.common.specs.Walk.{firstFrom}
@@ -18,14 +18,16 @@ use Rattle.common.proofs.Walk.{all-left, firstFrom-cases, firstFrom-more, first
 use Rattle.tables.specs.declared.Found.{Found}
 use Rattle.tables.specs.declared.Found.the-variants.{At, Nothing}
 use Rattle.tables.specs.Limits.{stride}
-use Rattle.tables.specs.Rows.{rows, putRow}
+use Rattle.tables.specs.Records.{mandateOf, collectionOf}
+use Rattle.tables.specs.Rows.{rows, putRow, mandateAt, collectionAt}
 use Rattle.tables.specs.Lookup.{numberAt, numberIs, existing, lookup}
 use Rattle.tables.proofs.Laws.Rows.{rows-put, cell-put-same, cell-put-other}
 
 -- ---- existing
 
 module _ (cells : List ℕ) (used : ℕ) where
-  existing-cases : (P : ℕ → Type 0) → (used < rows cells → P used) → (rows cells ≤ used → P (rows cells)) → P (existing cells used)
+  existing-cases :
+      (P : ℕ → Type 0) → (used < rows cells → P used) → (rows cells ≤ used → P (rows cells)) → P (existing cells used)
   existing-cases P low high =
       ⊎-elim
       (λ e. rw e (low (ltb-true used (rows cells) e)))
@@ -51,7 +53,9 @@ pub record Lowest (cells : List ℕ) (used number row : ℕ) : Type 0 where
   pub none-below : (j : ℕ) → j < row → numberAt cells j ≢ number
 
 module _ (cells : List ℕ) (used number : ℕ) where
-  pub lookup-cases : (P : Found → Type 0) → ((row : ℕ) → Lowest cells used number row → P (At row)) → (((j : ℕ) → j < existing cells used → numberAt cells j ≢ number) → P Nothing) → P (lookup cells used number)
+  pub lookup-cases :
+      (P : Found → Type 0) → ((row : ℕ) → Lowest cells used number row → P (At row))
+      → (((j : ℕ) → j < existing cells used → numberAt cells j ≢ number) → P Nothing) → P (lookup cells used number)
   unfolding lookup
   lookup-cases P found none =
       firstFrom-cases (numberIs cells number) At Nothing P (existing cells used)
@@ -65,7 +69,9 @@ module _ (cells : List ℕ) (used number : ℕ) where
       (λ below. none (λ j l. eqb-false (numberAt cells j) number (below j l)))
 
   -- the lookup as the loop begins it
-  pub lookup-walk : (n : ℕ) → n ≡ existing cells used → firstFrom (numberIs cells number) At Nothing 0 (n - 0) ≡ lookup cells used number
+  pub lookup-walk :
+      (n : ℕ) → n ≡ existing cells used
+      → firstFrom (numberIs cells number) At Nothing 0 (n - 0) ≡ lookup cells used number
   unfolding lookup
   lookup-walk n e = rw (all-left n, e)
 
@@ -74,6 +80,13 @@ module _ (cells : List ℕ) (used number : ℕ) where
       lookup-cases (λ (f : Found). f ≡ At row → Lowest cells used number row)
       (λ k low e. let s : k ≡ row = cc in rw (← s) low)
       (λ none e. let z : _≡_ {A = ℕ} 0 1 = cc in absurd (omega arith))
+
+  -- a row that is found is a used one, and lent
+  pub lookup-used : (row : ℕ) → lookup cells used number ≡ At row → row < used
+  lookup-used row e = omega (arith, lookup-at row e .existing-row, existing-used cells used)
+
+  pub lookup-lent : (row : ℕ) → lookup cells used number ≡ At row → row < rows cells
+  lookup-lent row e = omega (arith, lookup-at row e .existing-row, existing-rows cells used)
 
   pub lookup-nothing : lookup cells used number ≡ Nothing → (j : ℕ) → j < existing cells used → numberAt cells j ≢ number
   lookup-nothing =
@@ -106,6 +119,16 @@ module _ (cells : List ℕ) (used number : ℕ) where
       (λ k low. absurd (none k (low .existing-row) (low .number-row)))
       (λ n. refl)
 
+-- ---- a row's number in its record
+
+pub mandateAt-number : (cells : List ℕ) (row : ℕ) → mandateAt cells row .number ≡ numberAt cells row
+unfolding mandateAt mandateOf
+mandateAt-number cells row = rw (add-zero (row * stride))
+
+pub collectionAt-number : (cells : List ℕ) (row : ℕ) → collectionAt cells row .number ≡ numberAt cells row
+unfolding collectionAt collectionOf
+collectionAt-number cells row = rw (add-zero (row * stride))
+
 -- ---- lookup after a row is written
 
 -- the first answer, or else the second
@@ -123,7 +146,9 @@ module _ (cells : List ℕ) (row : ℕ) (fields : List ℕ) (e : length fields �
   pub numberAt-put-other : (other : ℕ) → other ≢ row → numberAt (putRow stride cells row fields) other ≡ numberAt cells other
   numberAt-put-other other ne = rw first-cell at (cell-put-other stride cells row fields e other 0 ne (omega arith))
 
-  same-number : row < rows cells → getD fields 0 0 ≡ numberAt cells row → (j : ℕ) → numberAt (putRow stride cells row fields) j ≡ numberAt cells j
+  same-number :
+      row < rows cells → getD fields 0 0 ≡ numberAt cells row → (j : ℕ)
+      → numberAt (putRow stride cells row fields) j ≡ numberAt cells j
   same-number h s j =
       ⊎-elim
       (λ q. let p = eqb-true j row q in rw p (numberAt-put-same h ∙ s))
@@ -131,7 +156,9 @@ module _ (cells : List ℕ) (row : ℕ) (fields : List ℕ) (e : length fields �
       (true-or-false (eqb j row))
 
   -- a row that keeps its number: every lookup stays
-  pub lookup-put-kept : row < rows cells → getD fields 0 0 ≡ numberAt cells row → (used number : ℕ) → lookup (putRow stride cells row fields) used number ≡ lookup cells used number
+  pub lookup-put-kept :
+      row < rows cells → getD fields 0 0 ≡ numberAt cells row → (used number : ℕ)
+      → lookup (putRow stride cells row fields) used number ≡ lookup cells used number
   unfolding lookup
   lookup-put-kept h s used number =
       rw (rows-put stride cells row fields)
@@ -139,7 +166,9 @@ module _ (cells : List ℕ) (row : ℕ) (fields : List ℕ) (e : length fields �
       (λ k l. ap (λ (n : ℕ). eqb n number) (same-number h s k)))
 
   -- a row at the next place: the lookup goes on there
-  pub lookup-put-next : row < rows cells → (number : ℕ) → lookup (putRow stride cells row fields) (row + 1) number ≡ orElse (lookup cells row number) (cond (eqb (getD fields 0 0) number) (At row) Nothing)
+  pub lookup-put-next :
+      row < rows cells → (number : ℕ)
+      → lookup (putRow stride cells row fields) (row + 1) number ≡ orElse (lookup cells row number) (cond (eqb (getD fields 0 0) number) (At row) Nothing)
   unfolding lookup
   lookup-put-next h number =
       let room : row + 1 ≤ rows (putRow stride cells row fields) = rw (rows-put stride cells row fields) (omega arith) in

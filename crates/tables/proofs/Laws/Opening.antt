@@ -1,10 +1,10 @@
 -- Laws of specs/Opening: what is answered, and that an opened ledger is fit. To cite: `opening-done`, `opening-refused`,
--- `opened-fit`; for the loops that clear a table `cleared-step`, `cleared-end`. Assumes nothing.
+-- `opened-fit`, `opened-mandates`, `opened-collections`; for the loops that clear a table `cleared-step`, `cleared-end`. Assumes nothing.
 use mathlib.Core.Path.{_≡_, refl, sym, _∙_, ap}
-use mathlib.Core.Bool.{Bool, true, false}
+use mathlib.Core.Bool.{true, false}
 use mathlib.Core.List.{List}
 use mathlib.Core.Logic.{⊎-elim}
-use Prim.Native.Nat.{ℕ, _+_, _≤_, _<_}
+use Prim.Native.Nat.{ℕ, _+_, _<_}
 use native.Mathlib.Omega.{arith}
 use borrow.Author.Tests.{eqb-true, eqb-false}
 use lib.Dec.{eqb}
@@ -69,6 +69,23 @@ module _ (l : Ledger) where
   pub opened-done : sizesFit l ≡ true → opened l ≡ fresh l
   unfolding opened
   opened-done e = rw e
+
+  -- the cells of the rows stay, whatever is answered
+  pub fresh-mandates : fresh l .mandates ≡ l .mandates
+  unfolding fresh
+  fresh-mandates = refl
+
+  pub fresh-collections : fresh l .collections ≡ l .collections
+  unfolding fresh
+  fresh-collections = refl
+
+  pub opened-mandates : opened l .mandates ≡ l .mandates
+  unfolding opened
+  opened-mandates = ⊎-elim (λ e. rw e fresh-mandates) (λ e. rw e) (true-or-false (sizesFit l))
+
+  pub opened-collections : opened l .collections ≡ l .collections
+  unfolding opened
+  opened-collections = ⊎-elim (λ e. rw e fresh-collections) (λ e. rw e) (true-or-false (sizesFit l))
 
   fresh-sizes : Sizes l → Sizes (fresh l)
   unfolding fresh

@@ -1,10 +1,11 @@
 -- Laws of specs/Rows, over the width w, the table and the fields. Names: F-put-same and F-put-other read the row that was
--- written and another one. To cite: `rowAt-put-same`, `rowAt-put-other`, `cell-put-outside`, `cell-put-unused`,
--- `length-put`, and for the two tables `mandateAt-put-same` and so on. Assumes nothing.
+-- written and another one. To cite: `rowAt-put-same`, `rowAt-put-other`, `rowAt-cell`, `length-put`, `rows-put`,
+-- `put-nowhere`; of cells `cell-put-before`, `cell-put-after`, `cell-put-unused` (no cell of an unused row is written); for
+-- the two tables `mandateAt-put-same`, `mandateAt-put-other`, `collectionAt-put-same`, `collectionAt-put-other`.
+-- Assumes nothing.
 use mathlib.Core.Path.{_≡_, refl, sym, _∙_, ap}
-use mathlib.Core.Bool.{Bool, true, false, cond}
 use mathlib.Core.List.{List, [], _∷_}
-use mathlib.Core.Logic.{_≢_, _⊎_, inl, inr, ⊎-elim}
+use mathlib.Core.Logic.{_≢_, _⊎_, ⊎-elim}
 use Prim.Native.Nat.{ℕ, zero, suc, _+_, _*_, _/_, _≤_, _<_}
 use native.Mathlib.Nat.{add-zero, suc-mul, mul-le-mul-right, le-div-iff-mul-le}
 use native.Mathlib.Numerals.{add-one}
@@ -46,7 +47,9 @@ module _ (cells fields : List ℕ) (b : ℕ) where
   pub sets-start : sets cells (b + 0) (drop 0 fields) ≡ sets cells b fields
   sets-start = rw (add-zero b)
 
-  pub sets-step : (k : ℕ) → k < length fields → sets (set cells (b + k) (getD fields k 0)) (b + (k + 1)) (drop (k + 1) fields) ≡ sets cells (b + k) (drop k fields)
+  pub sets-step :
+      (k : ℕ) → k < length fields
+      → sets (set cells (b + k) (getD fields k 0)) (b + (k + 1)) (drop (k + 1) fields) ≡ sets cells (b + k) (drop k fields)
   sets-step k h =
       let e : b + (k + 1) ≡ suc (b + k) = omega arith in
       rw (e, add-one k, drop-cons fields k 0)
@@ -106,7 +109,9 @@ module _ (w : ℕ) (cells : List ℕ) (row : ℕ) (fields : List ℕ) where
   unfolding putRow
   put-nowhere h = rw (le-ltb row (rowsOf w cells) h)
 
-  by-place : (P : List ℕ → Type 0) → (row < rowsOf w cells → P (sets cells (row * w) fields)) → P cells → P (putRow w cells row fields)
+  by-place :
+      (P : List ℕ → Type 0) → (row < rowsOf w cells → P (sets cells (row * w) fields)) → P cells
+      → P (putRow w cells row fields)
   by-place P written kept =
       ⊎-elim
       (λ e. let h = ltb-true row (rowsOf w cells) e in rw (put-there h) (written h))
@@ -132,16 +137,22 @@ module _ (w : ℕ) (cells : List ℕ) (row : ℕ) (fields : List ℕ) where
       refl
 
   -- a cell of an unused row is never written: the row is below the count of the rows used
-  pub cell-put-unused : length fields ≡ w → (used j : ℕ) → row < used → used * w ≤ j → getD (putRow w cells row fields) j 0 ≡ getD cells j 0
+  pub cell-put-unused :
+      length fields ≡ w → (used j : ℕ) → row < used → used * w ≤ j
+      → getD (putRow w cells row fields) j 0 ≡ getD cells j 0
   cell-put-unused e used j h u = cell-put-after e j (omega (arith, row-before w row used h))
 
   -- a cell of the row is the field
-  pub cell-put-same : length fields ≡ w → 0 < w → row < rowsOf w cells → (k : ℕ) → k < w → getD (putRow w cells row fields) (row * w + k) 0 ≡ getD fields k 0
+  pub cell-put-same :
+      length fields ≡ w → 0 < w → row < rowsOf w cells → (k : ℕ) → k < w
+      → getD (putRow w cells row fields) (row * w + k) 0 ≡ getD fields k 0
   cell-put-same e p h k l =
       rw (put-there h) (sets-in fields cells (row * w) k (rw e l) (rw e (row-room w cells row p h)))
 
   -- a cell of another row stays
-  pub cell-put-other : length fields ≡ w → (other k : ℕ) → other ≢ row → k < w → getD (putRow w cells row fields) (other * w + k) 0 ≡ getD cells (other * w + k) 0
+  pub cell-put-other :
+      length fields ≡ w → (other k : ℕ) → other ≢ row → k < w
+      → getD (putRow w cells row fields) (other * w + k) 0 ≡ getD cells (other * w + k) 0
   cell-put-other e other k ne l =
       ⊎-elim
       (λ b. cell-put-before (other * w + k) (omega (arith, row-before w other row (ltb-true other row b))))
@@ -156,7 +167,8 @@ module _ (w : ℕ) (cells : List ℕ) (row : ℕ) (fields : List ℕ) where
       row-equal w (rowAt w (putRow w cells row fields) row) fields (rowAt-length w (putRow w cells row fields) row) e
       (λ k l. rowAt-cell w (putRow w cells row fields) row k l ∙ cell-put-same e p h k l)
 
-  pub rowAt-put-other : length fields ≡ w → (other : ℕ) → other ≢ row → rowAt w (putRow w cells row fields) other ≡ rowAt w cells other
+  pub rowAt-put-other :
+      length fields ≡ w → (other : ℕ) → other ≢ row → rowAt w (putRow w cells row fields) other ≡ rowAt w cells other
   rowAt-put-other e other ne =
       row-equal w (rowAt w (putRow w cells row fields) other) (rowAt w cells other)
       (rowAt-length w (putRow w cells row fields) other)
@@ -173,7 +185,8 @@ module _ (cells : List ℕ) (row : ℕ) where
   unfolding mandateAt
   mandateAt-put-same m h = ap mandateOf (rowAt-put-same stride cells row (mandateCells m) refl (omega arith) h) ∙ mandateOf-cells m
 
-  pub mandateAt-put-other : (m : Mandate) (other : ℕ) → other ≢ row → mandateAt (putMandate cells row m) other ≡ mandateAt cells other
+  pub mandateAt-put-other :
+      (m : Mandate) (other : ℕ) → other ≢ row → mandateAt (putMandate cells row m) other ≡ mandateAt cells other
   unfolding mandateAt
   mandateAt-put-other m other ne = ap mandateOf (rowAt-put-other stride cells row (mandateCells m) refl other ne)
 
@@ -182,6 +195,8 @@ module _ (cells : List ℕ) (row : ℕ) where
   collectionAt-put-same c h =
       ap collectionOf (rowAt-put-same stride cells row (collectionCells c) refl (omega arith) h) ∙ collectionOf-cells c
 
-  pub collectionAt-put-other : (c : Collection) (other : ℕ) → other ≢ row → collectionAt (putCollection cells row c) other ≡ collectionAt cells other
+  pub collectionAt-put-other :
+      (c : Collection) (other : ℕ) → other ≢ row
+      → collectionAt (putCollection cells row c) other ≡ collectionAt cells other
   unfolding collectionAt
   collectionAt-put-other c other ne = ap collectionOf (rowAt-put-other stride cells row (collectionCells c) refl other ne)

@@ -3,8 +3,6 @@ use Rattle.tables.proofs.Laws.Ledger.{bankOf-zero, bankOf-at, bankOf-pa
 use borrow.Author.Needs.{needs}
 use Rattle.tables.proofs.creditors.bank_of.Statement.{statement}
 use Rattle.tables.proofs.creditors.bank_of.Tie as tie
-use Rattle.tables.proofs.creditors.bank_of.Reads as reads
-use Rattle.tables.proofs.creditors.bank_of.Lts as lts
 
 returns : tie.Need-returns
 returns c = sym (bankOf-zero _ _ (c .if1 .taken))

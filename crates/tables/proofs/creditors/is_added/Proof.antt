@@ -1,9 +1,6 @@
 use borrow.Author.Needs.{needs}
 use Rattle.tables.proofs.creditors.is_added.Statement.{statement}
 use Rattle.tables.proofs.creditors.is_added.Tie as tie
-use Rattle.tables.proofs.creditors.is_added.Reads as reads
-use Rattle.tables.proofs.creditors.is_added.Lts as lts
-use Rattle.tables.proofs.creditors.bank_of.Reads as bank-of-reads
 
 bank-of-requires : tie.Need-bank-of-requires
 bank-of-requires c κs = search needs

@@ -3,20 +3,13 @@ use mir.Facts.{toZ-ofZ}
 use borrow.Author.Needs.{needs}
 use Rattle.tables.proofs.fitness.creditor_fit.Statement.{statement}
 use Rattle.tables.proofs.fitness.creditor_fit.Tie as tie
-use Rattle.tables.proofs.fitness.creditor_fit.Reads as reads
-use Rattle.tables.proofs.fitness.creditor_fit.Lts as lts
-use Rattle.tables.proofs.fitness.is_zero.Reads as is-zero-reads
-use Rattle.tables.proofs.fitness.position_fit.Reads as position-fit-reads
 
--- src/fitness.rt:177:23
 position-fit-requires : tie.Need-position-fit-requires
 position-fit-requires c κs = search needs
 
--- src/fitness.rt:177:63
 is-zero-requires : tie.Need-is-zero-requires
 is-zero-requires c κs = search needs
 
--- src/fitness.rt:174:1
 returns : tie.Need-returns
 unfolding creditorFit
 returns c = rw (c .before .position-fit .ensures, c .is-zero .ensures, toZ-ofZ (c .before .before .fits .position))

@@ -1,5 +1,7 @@
+-- `tables::fitness::creditors_fit` meets its contract. The loop: the entries from i on pass where all entries do.
+-- Assumes nothing.
 use mir.Syntax.{w64}
-use Rattle.tables.specs.Fitness.{creditorFitAt, creditorsFit, positionFit, creditorFit}
+use Rattle.tables.specs.Fitness.{creditorFitAt, creditorsFit, creditorFit}
 use Rattle.common.proofs.Walk.{all-left, allFrom-hit, allFrom-miss, allFrom-end}
 use Rattle.common.specs.Walk.{allFrom}
 use mir.Facts.{toZ-ofZ}
@@ -9,12 +11,8 @@ use borrow.Author.Tests.{not-true, not-false}
 use mathlib.Core.Path.{_≡_, sym, _∙_, ap}
 use Prim.Native.Nat.{_≤_, _-_}
 use borrow.Author.Needs.{needs}
-use native.Mathlib.Omega.{arith}
 use Rattle.tables.proofs.fitness.creditors_fit.Statement.{statement}
 use Rattle.tables.proofs.fitness.creditors_fit.Tie as tie
-use Rattle.tables.proofs.fitness.creditors_fit.Reads as reads
-use Rattle.tables.proofs.fitness.creditors_fit.Lts as lts
-use Rattle.tables.proofs.fitness.creditor_fit.Reads as creditor-fit-reads
 
 abbrev Inv-loop : tie.InvT-loop
 Inv-loop creditors positions i₀ i = (i ≤ length creditors) × (length creditors ≤ length positions) × (allFrom (creditorFitAt creditors positions) i (length creditors - i) ≡ creditorsFit creditors positions)

@@ -2,9 +2,6 @@ use borrow.Author.Tests.{le-leb, lt-leb}
 use borrow.Author.Needs.{needs}
 use Rattle.tables.proofs.fitness.day_fit.Statement.{statement}
 use Rattle.tables.proofs.fitness.day_fit.Tie as tie
-use Rattle.tables.proofs.fitness.day_fit.Reads as reads
-use Rattle.tables.proofs.fitness.day_fit.Lts as lts
-use Rattle.calendar.proofs.gregorian.in_range.Reads as in-range-reads
 
 returns : tie.Need-returns
 returns c = rw (le-leb _ _ (c .if1 .taken))

@@ -4,20 +4,13 @@ use Rattle.tables.specs.Fitness.{headerOf}
 use borrow.Author.Needs.{needs}
 use Rattle.tables.proofs.fitness.header_fit.Statement.{statement}
 use Rattle.tables.proofs.fitness.header_fit.Tie as tie
-use Rattle.tables.proofs.fitness.header_fit.Reads as reads
-use Rattle.tables.proofs.fitness.header_fit.Lts as lts
-use Rattle.tables.proofs.fitness.compensation_fit.Reads as compensation-fit-reads
-use Rattle.tables.proofs.fitness.none_or_date.Reads as none-or-date-reads
 
--- src/fitness.rt:84:11
 none-or-date-requires : tie.Need-none-or-date-requires
 none-or-date-requires c κs = search needs
 
--- src/fitness.rt:85:11
 compensation-fit-requires : tie.Need-compensation-fit-requires
 compensation-fit-requires c κs = search needs
 
--- src/fitness.rt:79:1
 returns : tie.Need-returns
 unfolding headerOf
 returns c =

@@ -1,21 +1,14 @@
+-- `tables::fitness::is_fit` meets its contract: sizes first, then the header, then each table. Assumes nothing.
 use Rattle.tables.proofs.Laws.Fitness.{sizes-facts, header-facts, fit-no-sizes, fit-no-header, fit-contents}
 use Rattle.tables.specs.Fitness.{sizesFit, headerFit}
 use Rattle.tables.specs.Ledger.{Ledger, ledger}
 use borrow.Author.Tests.{not-true, not-false}
 use native.Mathlib.Omega.{arith}
-use mathlib.Core.Bool.{true, false}
+use mathlib.Core.Bool.{true}
 use mathlib.Core.Path.{_≡_, sym, _∙_}
 use borrow.Author.Needs.{needs}
 use Rattle.tables.proofs.fitness.is_fit.Statement.{statement}
 use Rattle.tables.proofs.fitness.is_fit.Tie as tie
-use Rattle.tables.proofs.fitness.is_fit.Reads as reads
-use Rattle.tables.proofs.fitness.is_fit.Lts as lts
-use Rattle.tables.proofs.fitness.collections_fit.Reads as collections-fit-reads
-use Rattle.tables.proofs.fitness.creditors_fit.Reads as creditors-fit-reads
-use Rattle.tables.proofs.fitness.header_fit.Reads as header-fit-reads
-use Rattle.tables.proofs.fitness.mandates_fit.Reads as mandates-fit-reads
-use Rattle.tables.proofs.fitness.positions_fit.Reads as positions-fit-reads
-use Rattle.tables.proofs.fitness.sizes_fit.Reads as sizes-fit-reads
 
 abbrev book : tie.Start → Ledger
 book s =
@@ -28,52 +21,42 @@ book s =
     (s .args .debtor-positions .now)
     (s .args .bank-positions .now)
 
--- src/fitness.rt:208:9
 sizes-fit-requires : tie.Need-sizes-fit-requires
 sizes-fit-requires c κs = search needs
 
--- src/fitness.rt:216:9
 returns : tie.Need-returns
 returns c = sym (fit-no-sizes (book (c .before .before .before .before .before)) (sym (c .before .sizes-fit .ensures) ∙ not-true _ (c .if1 .taken)))
 
--- src/fitness.rt:218:9
 header-fit-requires : tie.Need-header-fit-requires
 header-fit-requires c κs = search needs
 
--- src/fitness.rt:219:9
 returns-2 : tie.Need-returns-2
 returns-2 c =
     let sizes : sizesFit (book (c .before .before .before .before .before .before .before)) ≡ true = sym (c .before .before .before .sizes-fit .ensures) ∙ not-false _ (c .before .before .if1 .left) in
     sym (fit-no-header (book (c .before .before .before .before .before .before .before)) sizes (sym (c .before .header-fit .ensures) ∙ not-true _ (c .if2 .taken)))
 
--- src/fitness.rt:221:5
 mandates-fit-requires : tie.Need-mandates-fit-requires
 mandates-fit-requires c κs =
     let header : headerFit (book (c .before .before .before .before .before .before .before)) ≡ true = sym (c .before .header-fit .ensures) ∙ not-false _ (c .if2 .left) in
     header-facts (book (c .before .before .before .before .before .before .before)) header .mandates-lent
 
--- src/fitness.rt:222:11
 collections-fit-requires : tie.Need-collections-fit-requires
 collections-fit-requires c κs =
     let header : headerFit (book (c .before .before .before .before .before .before .before .before)) ≡ true = sym (c .before .before .header-fit .ensures) ∙ not-false _ (c .before .if2 .left) in
     header-facts (book (c .before .before .before .before .before .before .before .before)) header .collections-lent
 
--- src/fitness.rt:223:11
 creditors-fit-requires : tie.Need-creditors-fit-requires
 creditors-fit-requires c κs =
     let sizes : sizesFit (book (c .before .before .before .before .before .before .before .before .before)) ≡ true = sym (c .before .before .before .before .before .sizes-fit .ensures) ∙ not-false _ (c .before .before .before .before .if1 .left) in
     let s = sizes-facts (book (c .before .before .before .before .before .before .before .before .before)) sizes in
     omega (arith, s .creditor-table, s .creditor-positions)
 
--- src/fitness.rt:224:11
 positions-fit-requires : tie.Need-positions-fit-requires
 positions-fit-requires c κs = search needs
 
--- src/fitness.rt:225:11
 positions-fit-requires-2 : tie.Need-positions-fit-requires-2
 positions-fit-requires-2 c κs = search needs
 
--- src/fitness.rt:197:1
 returns-3 : tie.Need-returns-3
 returns-3 c =
     let sizes : sizesFit (book (c .before .before .before .before .before .before .before .before .before .before .before .before)) ≡ true = sym (c .before .before .before .before .before .before .before .before .sizes-fit .ensures) ∙ not-false _ (c .before .before .before .before .before .before .before .if1 .left) in

@@ -1,3 +1,5 @@
+-- `tables::fitness::mandates_fit` meets its contract. The loop: the rows from i on pass where all rows do.
+-- Assumes nothing.
 use Rattle.tables.specs.Fitness.{rowFit, rowsFit, mandateFit}
 use Rattle.tables.specs.Rows.{rows}
 use Rattle.common.proofs.Walk.{all-left, allFrom-hit, allFrom-miss, allFrom-end}
@@ -6,12 +8,8 @@ use borrow.Author.Tests.{not-true, not-false}
 use mathlib.Core.Path.{_≡_, sym, _∙_}
 use Prim.Native.Nat.{_≤_, _-_}
 use borrow.Author.Needs.{needs}
-use native.Mathlib.Omega.{arith}
 use Rattle.tables.proofs.fitness.mandates_fit.Statement.{statement}
 use Rattle.tables.proofs.fitness.mandates_fit.Tie as tie
-use Rattle.tables.proofs.fitness.mandates_fit.Reads as reads
-use Rattle.tables.proofs.fitness.mandates_fit.Lts as lts
-use Rattle.tables.proofs.fitness.mandate_row_fit.Reads as mandate-row-fit-reads
 
 abbrev Inv-loop : tie.InvT-loop
 Inv-loop creditors cells used i₀ i = (i ≤ used) × (used ≤ rows cells) × (allFrom (rowFit (mandateFit creditors) cells) i (used - i) ≡ rowsFit (mandateFit creditors) cells used)

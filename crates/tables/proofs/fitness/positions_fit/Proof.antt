@@ -1,20 +1,18 @@
+-- `tables::fitness::positions_fit` meets its contract. The loop: the entries from i on pass where all entries do.
+-- Assumes nothing.
 use mir.Syntax.{w64}
-use Rattle.tables.specs.Fitness.{positionFitAt, positionsFit, positionFit, creditorFit}
+use Rattle.tables.specs.Fitness.{positionFitAt, positionsFit, positionFit}
 use Rattle.common.proofs.Walk.{all-left, allFrom-hit, allFrom-miss, allFrom-end}
 use Rattle.common.specs.Walk.{allFrom}
 use mir.Facts.{toZ-ofZ}
-use lib.IntN.{ℤ, pos}
+use lib.IntN.{pos}
 use lib.ListN.{length, getD}
 use borrow.Author.Tests.{not-true, not-false}
 use mathlib.Core.Path.{_≡_, sym, _∙_, ap}
 use Prim.Native.Nat.{_≤_, _-_}
 use borrow.Author.Needs.{needs}
-use native.Mathlib.Omega.{arith}
 use Rattle.tables.proofs.fitness.positions_fit.Statement.{statement}
 use Rattle.tables.proofs.fitness.positions_fit.Tie as tie
-use Rattle.tables.proofs.fitness.positions_fit.Reads as reads
-use Rattle.tables.proofs.fitness.positions_fit.Lts as lts
-use Rattle.tables.proofs.fitness.position_fit.Reads as position-fit-reads
 
 abbrev Inv-loop : tie.InvT-loop
 Inv-loop positions i₀ i = (i ≤ length positions) × (allFrom (positionFitAt positions) i (length positions - i) ≡ positionsFit positions)

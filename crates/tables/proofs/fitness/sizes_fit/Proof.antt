@@ -2,9 +2,6 @@ use Rattle.tables.specs.Fitness.{sizesOf}
 use borrow.Author.Needs.{needs}
 use Rattle.tables.proofs.fitness.sizes_fit.Statement.{statement}
 use Rattle.tables.proofs.fitness.sizes_fit.Tie as tie
-use Rattle.tables.proofs.fitness.sizes_fit.Reads as reads
-use Rattle.tables.proofs.fitness.sizes_fit.Lts as lts
-use Rattle.tables.proofs.fitness.row_count_fit.Reads as row-count-fit-reads
 
 row-count-fit-requires : tie.Need-row-count-fit-requires
 row-count-fit-requires c κs = search needs

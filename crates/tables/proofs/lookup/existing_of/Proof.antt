@@ -1,8 +1,6 @@
 use borrow.Author.Tests.{lt-ltb, le-ltb}
 use Rattle.tables.proofs.lookup.existing_of.Statement.{statement}
 use Rattle.tables.proofs.lookup.existing_of.Tie as tie
-use Rattle.tables.proofs.lookup.existing_of.Reads as reads
-use Rattle.tables.proofs.lookup.existing_of.Lts as lts
 
 returns : tie.Need-returns
 returns c = rw (lt-ltb _ _ (c .if1 .taken))

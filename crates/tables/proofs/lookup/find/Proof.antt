@@ -1,3 +1,5 @@
+-- `tables::lookup::find` meets its contract. The loop: the search from row i on has the answer of the whole lookup.
+-- Assumes nothing.
 use Rattle.tables.proofs.Laws.Lookup.{existing-rows, lookup-walk}
 use Rattle.tables.specs.Lookup.{numberIs, lookup}
 use Rattle.tables.specs.Rows.{rows}
@@ -8,12 +10,8 @@ use borrow.Author.Tests.{eq-eqb, ne-eqb}
 use mathlib.Core.Path.{_≡_, sym, _∙_}
 use Prim.Native.Nat.{_≤_, _-_}
 use borrow.Author.Needs.{needs}
-use native.Mathlib.Omega.{arith}
 use Rattle.tables.proofs.lookup.find.Statement.{statement}
 use Rattle.tables.proofs.lookup.find.Tie as tie
-use Rattle.tables.proofs.lookup.find.Reads as reads
-use Rattle.tables.proofs.lookup.find.Lts as lts
-use Rattle.tables.proofs.lookup.existing_of.Reads as existing-of-reads
 
 abbrev Inv-loop : tie.InvT-loop
 Inv-loop cells used number n i₀ i = (i ≤ n) × (n ≤ rows cells) × (firstFrom (numberIs cells number) At Nothing i (n - i) ≡ lookup cells used number)

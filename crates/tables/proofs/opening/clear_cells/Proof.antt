@@ -1,3 +1,4 @@
+-- `tables::opening::clear_cells` meets its contract. The loop: the first i cells are 0. Assumes nothing.
 use Rattle.tables.proofs.Laws.Opening.{ClearedTo, cleared-step, cleared-end}
 use lib.ListN.{length, length-set}
 use mathlib.Core.Path.{_≡_}
@@ -6,8 +7,6 @@ use borrow.Author.Needs.{needs}
 use native.Mathlib.Omega.{arith}
 use Rattle.tables.proofs.opening.clear_cells.Statement.{statement}
 use Rattle.tables.proofs.opening.clear_cells.Tie as tie
-use Rattle.tables.proofs.opening.clear_cells.Reads as reads
-use Rattle.tables.proofs.opening.clear_cells.Lts as lts
 
 abbrev Inv-loop : tie.InvT-loop
 Inv-loop cells₀ i₀ cells i = (i ≤ length cells) × (length cells ≡ length cells₀) × ClearedTo 0 cells i

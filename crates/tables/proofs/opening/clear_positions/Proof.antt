@@ -1,3 +1,4 @@
+-- `tables::opening::clear_positions` meets its contract. The loop: the first i positions are 0. Assumes nothing.
 use Rattle.tables.proofs.Laws.Opening.{ClearedTo, cleared-step, cleared-end}
 use lib.IntN.{pos}
 use lib.ListN.{length, length-set}
@@ -7,8 +8,6 @@ use borrow.Author.Needs.{needs}
 use native.Mathlib.Omega.{arith}
 use Rattle.tables.proofs.opening.clear_positions.Statement.{statement}
 use Rattle.tables.proofs.opening.clear_positions.Tie as tie
-use Rattle.tables.proofs.opening.clear_positions.Reads as reads
-use Rattle.tables.proofs.opening.clear_positions.Lts as lts
 
 abbrev Inv-loop : tie.InvT-loop
 Inv-loop positions₀ i₀ positions i = (i ≤ length positions) × (length positions ≡ length positions₀) × ClearedTo (pos 0) positions i

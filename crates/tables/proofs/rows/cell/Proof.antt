@@ -6,8 +6,6 @@ use lib.ListN.{List·getD-eq-default}
 use borrow.Author.Needs.{needs}
 use Rattle.tables.proofs.rows.cell.Statement.{statement}
 use Rattle.tables.proofs.rows.cell.Tie as tie
-use Rattle.tables.proofs.rows.cell.Reads as reads
-use Rattle.tables.proofs.rows.cell.Lts as lts
 
 mul-i : tie.Need-mul-i
 mul-i c = search needs

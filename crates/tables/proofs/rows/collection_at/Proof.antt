@@ -1,13 +1,8 @@
 use Rattle.tables.specs.Records.{collectionOf}
 use Rattle.tables.specs.Rows.{collectionAt}
-use native.Mathlib.Nat.{add-zero}
 use borrow.Author.Needs.{needs}
 use Rattle.tables.proofs.rows.collection_at.Statement.{statement}
 use Rattle.tables.proofs.rows.collection_at.Tie as tie
-use Rattle.tables.proofs.rows.collection_at.Reads as reads
-use Rattle.tables.proofs.rows.collection_at.Lts as lts
-use Rattle.tables.proofs.rows.cell.Reads as cell-reads
-use Rattle.tables.proofs.rows.state_of.Reads as state-of-reads
 
 cell-requires : tie.Need-cell-requires
 cell-requires c κs = search needs

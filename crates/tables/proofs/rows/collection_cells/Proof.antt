@@ -1,10 +1,6 @@
 use borrow.Author.Needs.{needs}
 use Rattle.tables.proofs.rows.collection_cells.Statement.{statement}
 use Rattle.tables.proofs.rows.collection_cells.Tie as tie
-use Rattle.tables.proofs.rows.collection_cells.Reads as reads
-use Rattle.tables.proofs.rows.collection_cells.Lts as lts
-use Rattle.tables.proofs.rows.state_day.Reads as state-day-reads
-use Rattle.tables.proofs.rows.state_tag.Reads as state-tag-reads
 
 state-tag-requires : tie.Need-state-tag-requires
 state-tag-requires c κs = search needs

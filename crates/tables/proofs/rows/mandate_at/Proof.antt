@@ -1,13 +1,8 @@
 use Rattle.tables.specs.Records.{mandateOf}
 use Rattle.tables.specs.Rows.{mandateAt}
-use native.Mathlib.Nat.{add-zero}
 use borrow.Author.Needs.{needs}
 use Rattle.tables.proofs.rows.mandate_at.Statement.{statement}
 use Rattle.tables.proofs.rows.mandate_at.Tie as tie
-use Rattle.tables.proofs.rows.mandate_at.Reads as reads
-use Rattle.tables.proofs.rows.mandate_at.Lts as lts
-use Rattle.tables.proofs.rows.cell.Reads as cell-reads
-use Rattle.tables.proofs.rows.standing_of.Reads as standing-of-reads
 
 cell-requires : tie.Need-cell-requires
 cell-requires c κs = search needs

@@ -1,10 +1,6 @@
 use borrow.Author.Needs.{needs}
 use Rattle.tables.proofs.rows.mandate_cells.Statement.{statement}
 use Rattle.tables.proofs.rows.mandate_cells.Tie as tie
-use Rattle.tables.proofs.rows.mandate_cells.Reads as reads
-use Rattle.tables.proofs.rows.mandate_cells.Lts as lts
-use Rattle.tables.proofs.rows.flag_cell.Reads as flag-cell-reads
-use Rattle.tables.proofs.rows.standing_tag.Reads as standing-tag-reads
 
 standing-tag-requires : tie.Need-standing-tag-requires
 standing-tag-requires c κs = search needs

@@ -1,11 +1,6 @@
-use Rattle.tables.specs.Rows.{putCollection}
 use borrow.Author.Needs.{needs}
 use Rattle.tables.proofs.rows.put_collection.Statement.{statement}
 use Rattle.tables.proofs.rows.put_collection.Tie as tie
-use Rattle.tables.proofs.rows.put_collection.Reads as reads
-use Rattle.tables.proofs.rows.put_collection.Lts as lts
-use Rattle.tables.proofs.rows.collection_cells.Reads as collection-cells-reads
-use Rattle.tables.proofs.rows.put_row.Reads as put-row-reads
 
 collection-cells-requires : tie.Need-collection-cells-requires
 collection-cells-requires c κs = search needs

@@ -1,11 +1,6 @@
-use Rattle.tables.specs.Rows.{putMandate}
 use borrow.Author.Needs.{needs}
 use Rattle.tables.proofs.rows.put_mandate.Statement.{statement}
 use Rattle.tables.proofs.rows.put_mandate.Tie as tie
-use Rattle.tables.proofs.rows.put_mandate.Reads as reads
-use Rattle.tables.proofs.rows.put_mandate.Lts as lts
-use Rattle.tables.proofs.rows.mandate_cells.Reads as mandate-cells-reads
-use Rattle.tables.proofs.rows.put_row.Reads as put-row-reads
 
 mandate-cells-requires : tie.Need-mandate-cells-requires
 mandate-cells-requires c κs = search needs

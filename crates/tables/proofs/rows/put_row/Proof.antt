@@ -1,5 +1,7 @@
+-- `tables::rows::put_row` meets its contract. The loop: the stores left from cell k on give the row that all stores give.
+-- Assumes nothing.
 use Prim.Native.Nat.{_*_}
-use Rattle.tables.proofs.Laws.Rows.{sets-start, sets-step, sets-end, put-there, put-nowhere, row-room}
+use Rattle.tables.proofs.Laws.Rows.{sets-start, sets-step, sets-end, put-there, put-nowhere}
 use Rattle.tables.specs.Limits.{stride}
 use lib.Seq.{sets}
 use lib.ListN.{length, drop, length-set}
@@ -9,8 +11,6 @@ use borrow.Author.Needs.{needs}
 use native.Mathlib.Omega.{arith}
 use Rattle.tables.proofs.rows.put_row.Statement.{statement}
 use Rattle.tables.proofs.rows.put_row.Tie as tie
-use Rattle.tables.proofs.rows.put_row.Reads as reads
-use Rattle.tables.proofs.rows.put_row.Lts as lts
 
 abbrev Inv-loop : tie.InvT-loop
 Inv-loop cells₀ row fields b k₀ cells k = (k ≤ stride) × (b + stride ≤ length cells) × (length cells ≡ length cells₀) × (sets cells (b + k) (drop k fields) ≡ sets cells₀ b fields)

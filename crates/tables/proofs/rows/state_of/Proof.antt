@@ -1,8 +1,6 @@
 use borrow.Author.Tests.{ne-eqb}
 use Rattle.tables.proofs.rows.state_of.Statement.{statement}
 use Rattle.tables.proofs.rows.state_of.Tie as tie
-use Rattle.tables.proofs.rows.state_of.Reads as reads
-use Rattle.tables.proofs.rows.state_of.Lts as lts
 
 returns : tie.Need-returns
 returns c = rw (c .match .keys1)
