@@ -1,0 +1,9 @@
+// The ledger: the call for the ten events, the position query, and replay. Every contract is an equation with the model.
+use model::Answer;
+use tables::Header;
+
+// The answer to an event, and the header after it.
+pub struct Outcome {
+    pub answer: Answer,
+    pub header: Header,
+}
