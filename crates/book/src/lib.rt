@@ -1,4 +1,7 @@
 // The ledger: the call for the ten events, the position query, and replay. Every contract is an equation with the model.
+mod creditors;
+mod headers;
+
 use model::Answer;
 use tables::Header;
 
