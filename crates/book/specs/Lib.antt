@@ -1,2 +1,4 @@
 -- What the contracts of the book cite besides the model.
 pub mod Calls  -- an event done to a ledger
+pub mod Mandates  -- events 2, 3 and 4
+pub mod Collect  -- event 5
