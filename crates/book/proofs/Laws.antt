@@ -4,3 +4,4 @@ pub mod Creditors  -- event 1
 pub mod Mandates  -- events 2, 3 and 4
 pub mod Terms  -- event 5: the terms of a collect
 pub mod Collect  -- event 5
+pub mod Events  -- the call for the ten events

@@ -2,3 +2,4 @@
 pub mod Calls  -- an event done to a ledger
 pub mod Mandates  -- events 2, 3 and 4
 pub mod Collect  -- event 5
+pub mod Events  -- the call for the ten events

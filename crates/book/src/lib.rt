@@ -1,6 +1,7 @@
 // The ledger: the call for the ten events, the position query, and replay. Every contract is an equation with the model.
 mod collect;
 mod creditors;
+mod event;
 mod headers;
 mod mandates;
 mod terms;
