@@ -1,0 +1,1 @@
+pub mod Laws  -- the book's laws, for its own proofs
