@@ -5,7 +5,7 @@ use mathlib.Core.Bool.{Bool, true, false}
 use mathlib.Core.List.{List, [], _∷_}
 use Prim.Native.Nat.{ℕ, _≤_, _<_}
 use lib.Dec.{leb}
-use lib.IntN.{ℤ, natAbs}
+use lib.IntN.{ℤ, natAbs, _+ℤ_}
 use lib.ListN.{length}
 use Rattle.common.specs.Checks.{check, judged}
 use Rattle.refusals.specs.declared.Refusal.the-variants.{UnfitMemory, BeforeLatest, NotBusinessDay, DoesNotExist, WrongState, BeforeDue, AfterLastDay}
@@ -16,6 +16,7 @@ use Rattle.positions.specs.Compensation.{InLimits, rateLimit}
 use Rattle.positions.specs.declared.Postings.{Postings}
 use Rattle.positions.specs.declared.PostingsAnswer.{PostingsAnswer}
 use Rattle.positions.specs.declared.PostingsAnswer.the-variants.{Amounts, OutsideLimits}
+use Rattle.tables.specs.declared.Header.{Header}
 use Rattle.tables.specs.declared.Collection.{Collection}
 use Rattle.tables.specs.declared.State.the-variants.{Settled}
 use Rattle.tables.specs.declared.Found.{Found}
@@ -101,6 +102,15 @@ abbrev pub answerIn : Verdict → Answer
 answerIn (Refuse r) = Refused r
 answerIn (Mark row k) = Accepted
 answerIn (Post row k p) = Accepted
+
+-- the event's date is the latest one, and cents are added to the total compensation
+abbrev pub headerAfter : Header → ℕ → ℤ → Header
+headerAfter h date cents = record {
+  latest = date;
+  mandates = h .mandates;
+  collections = h .collections;
+  compensation = h .compensation +ℤ cents;
+}
 
 abbrev pub afterVerdict : Verdict → ℕ → Ledger → Ledger
 afterVerdict (Refuse r) date l = l

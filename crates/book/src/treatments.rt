@@ -2,14 +2,16 @@
 // holds all that is to be written; `treat` writes it. specs/Treatments.
 ghost use mathlib.Core.Path.{_≡_};
 ghost use mathlib.Core.List.{List};
-ghost use Prim.Native.Nat.{ℕ};
+ghost use Prim.Native.Nat.{ℕ, _≤_};
+ghost use lib.IntN.{natAbs};
+ghost use Rattle.positions.specs.Positions.{positionLimit};
 ghost use Rattle.tables.specs.Ledger.{ledger};
 ghost use Rattle.model.specs.Actions.Action.{Treat};
 ghost use Rattle.model.specs.Checks.{isPresented, isSettled, settledOn, dayTreated, stateFits, dueTreated, timeTreated};
 ghost use Rattle.model.specs.Effects.{undoingOf as undoingIn, stateAfter, treated as treatedBy};
 ghost use Rattle.book.specs.declared.treatments.Verdict.the-variants.{Post};
 ghost use Rattle.book.specs.Calls.{Done};
-ghost use Rattle.book.specs.Treatments.{wayOf, treatmentOf, postVerdict, goVerdict, rowVerdict, verdictOf, afterVerdict, Payable, RowReady, Judgeable, Postable, Ready};
+ghost use Rattle.book.specs.Treatments.{wayOf, treatmentOf, postVerdict, goVerdict, rowVerdict, verdictOf, headerAfter, afterVerdict, Payable, RowReady, Judgeable, Postable, Ready};
 use crate::Outcome;
 use crate::undoing::Way;
 use crate::undoing::is_in_time;
@@ -218,6 +220,19 @@ fn judge(header: Header, date: u64, number: u64, t: Treatment, collections: &[u6
     }
 }
 
+// The header after an event of a date that adds cents to the total compensation.
+fn header_after(header: Header, date: u64, cents: i64) -> Header
+    requires { ⌜ (natAbs (header .compensation) ≤ positionLimit) × (natAbs cents ≤ positionLimit) ⌝ }
+    ensures { λ r. ⌜ r ≡ headerAfter header date cents ⌝ }
+{
+    Header {
+        latest: date,
+        mandates: header.mandates,
+        collections: header.collections,
+        compensation: header.compensation + cents,
+    }
+}
+
 // Writes the collection to its row and posts the amounts to its parties and banks. The header after it.
 fn write(
     header: Header,
@@ -238,12 +253,7 @@ fn write(
     post(debtor_positions, k.debtor, p.debtor);
     post(bank_positions, k.dbank, p.dbank);
     post(bank_positions, k.cbank, p.cbank);
-    Header {
-        latest: date,
-        mandates: header.mandates,
-        collections: header.collections,
-        compensation: header.compensation + p.compensation,
-    }
+    header_after(header, date, p.compensation)
 }
 
 // Events 6 to 10: the collection of a number is treated.
@@ -267,14 +277,10 @@ pub fn treat(
         },
         Verdict::Mark(row, k) => {
             put_collection(collections, row, k);
+            let after = header_after(header, date, 0);
             Outcome {
                 answer: Answer::Accepted,
-                header: Header {
-                    latest: date,
-                    mandates: header.mandates,
-                    collections: header.collections,
-                    compensation: header.compensation,
-                },
+                header: after,
             }
         }
         Verdict::Post(row, k, p) => {

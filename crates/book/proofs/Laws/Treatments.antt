@@ -5,12 +5,14 @@ use mathlib.Core.Path.{_≡_, refl, sym, _∙_, ap}
 use mathlib.Core.Bool.{Bool, true, false, cond, not}
 use mathlib.Core.List.{List, [], _∷_}
 use mathlib.Core.Logic.{⊎-elim}
-use Prim.Native.Nat.{ℕ, _+_, _-_, _≤_, _<_}
+use Prim.Native.Nat.{ℕ, _+_, _-_, _*_, _≤_, _<_}
 use native.Mathlib.Omega.{arith}
 use borrow.Author.Tests.{leb-true, le-leb, lt-leb, ltb-true, ltb-false}
 use lib.Dec.{eqb, leb, ltb}
-use lib.IntN.{ℤ, pos, natAbs, _+ℤ_}
+use lib.IntN.{ℤ, pos, natAbs, _+ℤ_, +ℤ-idr}
 use lib.ListN.{length, getD, List·getD-eq-default}
+use mir.Syntax.{w64}
+use mir.Val.{SFits, toZ, ofZ}
 use Rattle.common.specs.Checks.{check, judged}
 use Rattle.common.proofs.Tests.{never, true-or-false, not-true}
 use Rattle.refusals.specs.declared.Refusal.the-variants.{UnfitMemory, BeforeLatest, NotBusinessDay, DoesNotExist, WrongState, BeforeDue, AfterLastDay}
@@ -29,23 +31,27 @@ use Rattle.calendar.proofs.Laws.PeriodEnds.{longest, range-period-end}
 use Rattle.positions.specs.Positions.{Entry, Within, positionLimit, position, posted}
 use Rattle.positions.specs.Postings.{settlement, reversed, refunded}
 use Rattle.positions.specs.Compensation.{InLimits, compensation, compensationOf, rateLimit, daysLimit}
-use Rattle.positions.specs.Answers.{settlementOf, reversedOf, refundedOf}
+use Rattle.positions.specs.Answers.{afterPost, settlementOf, reversedOf, refundedOf}
 use Rattle.positions.specs.declared.Postings.{Postings}
 use Rattle.positions.specs.declared.PostingsAnswer.{PostingsAnswer}
 use Rattle.positions.specs.declared.PostingsAnswer.the-variants.{Amounts, OutsideLimits}
 use Rattle.positions.specs.declared.CompensationAnswer.the-variants.{Cents, OutsideLimits as NoCents}
 use Rattle.positions.proofs.Laws.Compensation.{compensationOf-is}
 use Rattle.positions.proofs.Laws.Limits.{compensation-bound}
-use Rattle.positions.proofs.Laws.Answers.{settlementOf-is, reversedOf-is, refundedOf-is}
+use Rattle.positions.proofs.Laws.Integers.{size-add, size-fits, bits-back}
+use Rattle.positions.proofs.Laws.Positions.{entry-posted, size-posted}
+use Rattle.positions.proofs.Laws.Postings.{AtMost, settlement-size, reversed-size, refunded-size}
+use Rattle.positions.proofs.Laws.Answers.{post-fits, settlementOf-is, reversedOf-is, refundedOf-is}
 use Rattle.tables.specs.declared.Collection.{Collection}
 use Rattle.tables.specs.declared.State.{State}
 use Rattle.tables.specs.declared.State.the-variants.{Presented, Rejected, Settled, Undone}
 use Rattle.tables.specs.declared.Found.{Found}
 use Rattle.tables.specs.declared.Found.the-variants.{At, Nothing}
 use Rattle.tables.specs.Limits.{creditorCount, debtorCount, bankCount, amountLimit}
-use Rattle.tables.specs.Ledger.{Ledger}
+use Rattle.tables.specs.declared.Header.{Header}
+use Rattle.tables.specs.Ledger.{Ledger, ledger}
 use Rattle.tables.specs.Lookup.{lookup}
-use Rattle.tables.specs.Rows.{collectionAt}
+use Rattle.tables.specs.Rows.{collectionAt, putCollection}
 use Rattle.tables.proofs.Laws.Lookup.{lookup-at, existing-used}
 use Rattle.model.specs.declared.Answer.{Answer}
 use Rattle.model.specs.declared.Answer.the-variants.{Accepted, Refused}
@@ -58,9 +64,11 @@ use Rattle.model.specs.Deadlines.{core, periodOf, lastDay, inTime, daysSince}
 use Rattle.model.specs.Lookups.{collectionOf}
 use Rattle.model.specs.Effects.{treated, undone, effect}
 use Rattle.model.specs.Step.{afterAnswer}
+use Rattle.book.specs.declared.Outcome.{Outcome}
+use Rattle.book.specs.Calls.{Done}
 use Rattle.book.specs.declared.treatments.Verdict.{Verdict}
 use Rattle.book.specs.declared.treatments.Verdict.the-variants.{Refuse, Mark, Post}
-use Rattle.book.specs.Treatments.{rateOf, postVerdict, goVerdict, rowVerdict, foundVerdict, verdictOf, answerIn, afterVerdict, Refundable, Payable, Treatable, Asked, RowReady, Judgeable, Held, Ready, Postable}
+use Rattle.book.specs.Treatments.{rateOf, postVerdict, goVerdict, rowVerdict, foundVerdict, verdictOf, answerIn, headerAfter, afterVerdict, Refundable, Payable, Treatable, Asked, RowReady, Judgeable, Held, Ready, Postable}
 
 -- ---- the postings of a refund
 
@@ -231,9 +239,6 @@ go-answer Reject date row k = refl
 go-answer (Undo way) date row k = refl
 
 module _ (l : Ledger) (date number : ℕ) (t : Treatment) where
-  verdict : Verdict
-  verdict = verdictOf t (l .latest) date (l .collections) (l .collectionsUsed) number
-
   row-answer :
       (k : Collection) (row : ℕ) (s d i : Bool)
       → judged (check s (Refused WrongState) ∷ check d (Refused BeforeDue) ∷ check i (Refused AfterLastDay) ∷ []) Accepted
@@ -266,3 +271,176 @@ unfolding effect treated
 effect-found l date number row Settle e = rw e
 effect-found l date number row Reject e = rw e
 effect-found l date number row (Undo way) e = rw e
+
+-- ---- an answer and a ledger for each verdict
+
+module _ (l : Ledger) (date number : ℕ) (t : Treatment) where
+  by-found :
+      (f : Found) → lookup (l .collections) (l .collectionsUsed) number ≡ f → (b d : Bool) → leb (l .latest) date ≡ b → dayTreated t date ≡ d
+      → (ruled l date (Treat number t) ≡ answerIn (verdictOf t (l .latest) date (l .collections) (l .collectionsUsed) number))
+      × (afterAnswer (ruled l date (Treat number t)) (effect l date (Treat number t)) l
+      ≡ afterVerdict (verdictOf t (l .latest) date (l .collections) (l .collectionsUsed) number) date l)
+  unfolding ruled verdictOf rowVerdict collectionOf
+  by-found f q false d e g = (rw e, rw e)
+  by-found f q true false e g = (rw (e, g), rw (e, g))
+  by-found Nothing q true true e g = (rw (e, g, q), rw (e, g, q))
+  by-found (At row) q true true e g =
+      let k = collectionAt (l .collections) row in (
+        rw (e, g, q) (row-answer l date number t k row (stateFits t (k .state)) (dueTreated t (k .due) date) (timeTreated t (k .state) date)),
+        rw (effect-found l date number row t q, e, g, q)
+        (row-after l date number t k row (stateFits t (k .state)) (dueTreated t (k .due) date) (timeTreated t (k .state) date)),
+      )
+
+  -- the answer and the ledger after a verdict, as the model has them
+  pub treat-done :
+      (v : Verdict) → verdictOf t (l .latest) date (l .collections) (l .collectionsUsed) number ≡ v
+      → (r : Outcome) → r .answer ≡ answerIn v → (l' : Ledger) → l' ≡ afterVerdict v date l
+      → Done l date (Treat number t) r l'
+  treat-done v e r p l' q =
+      let m = by-found (lookup (l .collections) (l .collectionsUsed) number) refl (leb (l .latest) date) (dayTreated t date) refl refl in
+      record {
+        answer = p ∙ ap answerIn (sym e) ∙ sym (m .0);
+        after = q ∙ ap (λ (w : Verdict). afterVerdict w date l) (sym e) ∙ sym (m .1);
+      }
+
+-- ---- what is written
+
+-- the sum of two signed numbers, as 64 bits hold them
+pub sum-fits : (a b : ℤ) → natAbs a ≤ positionLimit → natAbs b ≤ positionLimit → SFits w64 (toZ w64 (ofZ w64 a) +ℤ toZ w64 (ofZ w64 b))
+sum-fits a b p q =
+    rw (bits-back a (omega arith), bits-back b (omega arith)) (size-fits (a +ℤ b) (omega (arith, size-add a b)))
+
+pub sum-back :
+    (a b : ℤ) → natAbs a ≤ positionLimit → natAbs b ≤ positionLimit
+    → toZ w64 (ofZ w64 (toZ w64 (ofZ w64 a) +ℤ toZ w64 (ofZ w64 b))) ≡ a +ℤ b
+sum-back a b p q =
+    rw (bits-back a (omega arith), bits-back b (omega arith)) (bits-back (a +ℤ b) (omega (arith, size-add a b)))
+
+pub amount-back : (a : ℤ) → natAbs a ≤ positionLimit → toZ w64 (ofZ w64 a) ≡ a
+amount-back a p = bits-back a (omega arith)
+
+-- a posting within the limit, to a table not far beyond it
+post-is : (l : List ℤ) (k : ℕ) (x : ℤ) → Entry l k → natAbs (position l k) ≤ 2 * positionLimit → natAbs x ≤ positionLimit → afterPost l k x ≡ posted l k x
+post-is l k x e h g = post-fits l k x e (omega arith) (omega arith) .1
+
+pub written :
+    (h : Header) (date row : ℕ) (k : Collection) (p : Postings) (cs : List ℕ) (cp dp bp : List ℤ)
+    → Postable k p (h .compensation) cp dp bp
+    → (r : Header) (cs' : List ℕ) (cp' dp' mid bp' : List ℤ) (x y u v w : ℤ)
+    → x ≡ p .creditor → y ≡ p .debtor → u ≡ p .dbank → v ≡ p .cbank → w ≡ p .compensation
+    → cs' ≡ putCollection cs row k → cp' ≡ afterPost cp (k .creditor) x → dp' ≡ afterPost dp (k .debtor) y
+    → mid ≡ afterPost bp (k .dbank) u → bp' ≡ afterPost mid (k .cbank) v → r ≡ headerAfter h date w
+    → (m c : List ℕ) → ledger r m cs' c cp' dp' bp' ≡ afterVerdict (Post row k p) date (ledger h m cs c cp dp bp)
+written h date row k p cs cp dp bp s r cs' cp' dp' mid bp' x y u v w ex ey eu ev ew ec ecp edp emid ebp er m c =
+    let creditors = post-is cp (k .creditor) (p .creditor) (s .creditor) (omega (arith, s .creditors (k .creditor))) (s .creditor-amount) in
+    let debtors = post-is dp (k .debtor) (p .debtor) (s .debtor) (omega (arith, s .debtors (k .debtor))) (s .debtor-amount) in
+    let first = post-is bp (k .dbank) (p .dbank) (s .dbank) (omega (arith, s .banks (k .dbank))) (s .dbank-amount) in
+    let room = size-posted bp (k .dbank) (k .cbank) (p .dbank) in
+    let second =
+        post-is (posted bp (k .dbank) (p .dbank)) (k .cbank) (p .cbank)
+        (entry-posted bp (k .dbank) (k .cbank) (p .dbank) (s .cbank))
+        (omega (arith, room, s .banks (k .cbank), s .dbank-amount))
+        (s .cbank-amount)
+    in
+    rw (er, ec, ecp, edp, ebp, emid, ex, ey, eu, ev, ew, creditors, debtors, first, second)
+
+pub marked :
+    (h : Header) (date row : ℕ) (k : Collection) (cs : List ℕ) (cp dp bp : List ℤ) (r : Header) (cs' : List ℕ)
+    → cs' ≡ putCollection cs row k → r ≡ headerAfter h date (pos 0)
+    → (m c : List ℕ) → ledger r m cs' c cp dp bp ≡ afterVerdict (Mark row k) date (ledger h m cs c cp dp bp)
+marked h date row k cs cp dp bp r cs' ec er m c = rw (er, ec, +ℤ-idr (h .compensation))
+
+-- ---- a verdict to post is of amounts that can be posted
+
+atMost-mono : (m n : ℕ) (p : Postings) → m ≤ n → AtMost m p → AtMost n p
+atMost-mono m n p h a = record {
+  debtor = omega (arith, a .debtor);
+  creditor = omega (arith, a .creditor);
+  dbank = omega (arith, a .dbank);
+  cbank = omega (arith, a .cbank);
+  compensation = omega (arith, a .compensation);
+}
+
+undone-size :
+    (way : Way) (amount settled date : ℕ) → Refundable amount (rateOf way) settled date
+    → AtMost positionLimit (undone way amount settled date)
+undone-size ByReturn amount settled date r = atMost-mono amount positionLimit (reversed amount) (omega (arith, r .limits .high)) (reversed-size amount)
+undone-size (ByRefund rate code) amount settled date r =
+    let k = compensation amount rate (daysSince settled date) in
+    let h = compensation-bound amount rate (daysSince settled date) (r .limits .high) (r .limits .rated) (r .limits .dated) in
+    atMost-mono (amount + k) positionLimit (refunded amount k) (omega (arith, h, r .limits .high)) (refunded-size amount k)
+undone-size ByReversal amount settled date r = atMost-mono amount positionLimit (reversed amount) (omega (arith, r .limits .high)) (reversed-size amount)
+
+entry-held : (count k : ℕ) (positions : List ℤ) → Held count positions → (1 ≤ k) × (k ≤ count) → Entry positions k
+entry-held count k positions h n = record { low = n .0; high = omega (arith, h .size, n .1) }
+
+module _ (t : Treatment) (date : ℕ) (k : Collection) (total : ℤ) (cp dp bp : List ℤ) (f : Treatable date k) (creditors : Held creditorCount cp) (debtors : Held debtorCount dp) (banks : Held bankCount bp) (total-bounded : natAbs total ≤ positionLimit) where
+  postable : (p : Postings) → AtMost positionLimit p → Postable (treated t date k) p total cp dp bp
+  unfolding treated
+  postable p a = record {
+    creditor = entry-held creditorCount (k .creditor) cp creditors (f .creditor);
+    debtor = entry-held debtorCount (k .debtor) dp debtors (f .debtor);
+    cbank = entry-held bankCount (k .cbank) bp banks (f .cbank);
+    dbank = entry-held bankCount (k .dbank) bp banks (f .dbank);
+    creditors = creditors .bounded;
+    debtors = debtors .bounded;
+    banks = banks .bounded;
+    total-bounded = total-bounded;
+    creditor-amount = a .creditor;
+    debtor-amount = a .debtor;
+    cbank-amount = a .cbank;
+    dbank-amount = a .dbank;
+    cents = a .compensation;
+  }
+
+go-postable :
+    (t : Treatment) (date row : ℕ) (k : Collection) (total : ℤ) (cp dp bp : List ℤ) → Treatable date k → Payable t date k
+    → Held creditorCount cp → Held debtorCount dp → Held bankCount bp → natAbs total ≤ positionLimit
+    → (row' : ℕ) (k' : Collection) (p : Postings) → goVerdict t date row k ≡ Post row' k' p → Postable k' p total cp dp bp
+go-postable Settle date row k total cp dp bp f a hc hd hb ht row' k' p e =
+    let ek : k' ≡ treated Settle date k = cc in
+    let ep : p ≡ settlement (k .amount) = cc in
+    rw (ek, ep)
+    (postable Settle date k total cp dp bp f hc hd hb ht (settlement (k .amount))
+    (atMost-mono (k .amount) positionLimit (settlement (k .amount)) (omega (arith, a .amount)) (settlement-size (k .amount))))
+go-postable Reject date row k total cp dp bp f a hc hd hb ht row' k' p e = let z : _≡_ {A = ℕ} 0 1 = cc in absurd (omega arith)
+go-postable (Undo way) date row k total cp dp bp f a hc hd hb ht row' k' p e =
+    let ek : k' ≡ treated (Undo way) date k = cc in
+    let ep : p ≡ undone way (k .amount) (settledOn (k .state)) date = cc in
+    rw (ek, ep)
+    (postable (Undo way) date k total cp dp bp f hc hd hb ht (undone way (k .amount) (settledOn (k .state)) date)
+    (undone-size way (k .amount) (settledOn (k .state)) date (a .undoing way refl)))
+
+-- what a verdict to post tells of the tests
+row-posts :
+    (t : Treatment) (date row : ℕ) (k : Collection) (row' : ℕ) (k' : Collection) (p : Postings) (s d i : Bool)
+    → judged (check s (Refuse WrongState) ∷ check d (Refuse BeforeDue) ∷ check i (Refuse AfterLastDay) ∷ []) (goVerdict t date row k) ≡ Post row' k' p
+    → (s ≡ true) × (i ≡ true) × (goVerdict t date row k ≡ Post row' k' p)
+row-posts t date row k row' k' p false d i e = let z : _≡_ {A = ℕ} 0 1 = cc in absurd (omega arith)
+row-posts t date row k row' k' p true false i e = let z : _≡_ {A = ℕ} 0 1 = cc in absurd (omega arith)
+row-posts t date row k row' k' p true true false e = let z : _≡_ {A = ℕ} 0 1 = cc in absurd (omega arith)
+row-posts t date row k row' k' p true true true e = (refl, refl, e)
+
+module _ (t : Treatment) (latest date : ℕ) (total : ℤ) (cs : List ℕ) (used number : ℕ) (cp dp bp : List ℤ) (r : Ready t latest date total cs used cp dp bp) (row' : ℕ) (k' : Collection) (p : Postings) where
+  found-posts :
+      (f : Found) → lookup cs used number ≡ f → latest ≤ date → foundVerdict t date cs f ≡ Post row' k' p → Postable k' p total cp dp bp
+  unfolding rowVerdict
+  found-posts Nothing q h e = let z : _≡_ {A = ℕ} 0 1 = cc in absurd (omega arith)
+  found-posts (At row) q h e =
+      let k = collectionAt cs row in
+      let g = row-posts t date row k row' k' p (stateFits t (k .state)) (dueTreated t (k .due) date) (timeTreated t (k .state) date) e in
+      let w = found-ready t latest date cs used number row (r .judgeable) h q in
+      go-postable t date row k total cp dp bp (w .row-fit) (row-payable t date k w (g .0) (g .1)) (r .creditors) (r .debtors) (r .banks) (r .total-bounded)
+      row' k' p (g .2)
+
+  tests-post :
+      (b d : Bool) → leb latest date ≡ b
+      → judged (check b (Refuse BeforeLatest) ∷ check d (Refuse NotBusinessDay) ∷ []) (foundVerdict t date cs (lookup cs used number)) ≡ Post row' k' p
+      → Postable k' p total cp dp bp
+  tests-post false d q e = let z : _≡_ {A = ℕ} 0 1 = cc in absurd (omega arith)
+  tests-post true false q e = let z : _≡_ {A = ℕ} 0 1 = cc in absurd (omega arith)
+  tests-post true true q e = found-posts (lookup cs used number) refl (leb-true latest date q) e
+
+  pub verdict-postable : verdictOf t latest date cs used number ≡ Post row' k' p → Postable k' p total cp dp bp
+  unfolding verdictOf
+  verdict-postable e = tests-post (leb latest date) (dayTreated t date) refl e

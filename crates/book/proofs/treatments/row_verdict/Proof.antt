@@ -1,3 +1,7 @@
+use mathlib.Core.Path.{_≡_, refl, sym, _∙_, ap}
+use Rattle.common.proofs.Tests.{not-true, not-false}
+use Rattle.book.specs.Treatments.{treatmentOf}
+use Rattle.book.proofs.Laws.Treatments.{row-state, row-due, row-time, row-go, row-payable}
 use borrow.Author.Needs.{needs}
 use Rattle.book.proofs.treatments.row_verdict.Statement.{statement}
 use Rattle.book.proofs.treatments.row_verdict.Tie as tie
@@ -8,37 +12,29 @@ use Rattle.book.proofs.treatments.go_verdict.Reads as go-verdict-reads
 use Rattle.book.proofs.treatments.state_fits.Reads as state-fits-reads
 use Rattle.book.proofs.treatments.time_fits.Reads as time-fits-reads
 
--- src/treatments.rt:192:9
 state-fits-requires : tie.Need-state-fits-requires
 state-fits-requires c κs = search needs
 
--- src/treatments.rt:193:9
 returns : tie.Need-returns
-returns c = ?
+returns c = sym (row-state (treatmentOf (c .before .before .args .t)) (c .before .before .args .date) (c .before .before .args .row) (c .before .before .args .k) (sym (c .before .state-fits .ensures) ∙ not-true (c .if1 .taken)))
 
--- src/treatments.rt:195:9
 due-fits-requires : tie.Need-due-fits-requires
 due-fits-requires c κs = search needs
 
--- src/treatments.rt:196:9
 returns-2 : tie.Need-returns-2
-returns-2 c = ?
+returns-2 c = sym (row-due (treatmentOf (c .before .before .before .before .args .t)) (c .before .before .before .before .args .date) (c .before .before .before .before .args .row) (c .before .before .before .before .args .k) (sym (c .before .before .before .state-fits .ensures) ∙ not-false (c .before .before .if1 .left)) (sym (c .before .due-fits .ensures) ∙ not-true (c .if2 .taken)))
 
--- src/treatments.rt:198:9
 time-fits-requires : tie.Need-time-fits-requires
 time-fits-requires c κs = search needs
 
--- src/treatments.rt:199:9
 returns-3 : tie.Need-returns-3
-returns-3 c = ?
+returns-3 c = sym (row-time (treatmentOf (c .before .before .before .before .before .before .args .t)) (c .before .before .before .before .before .before .args .date) (c .before .before .before .before .before .before .args .row) (c .before .before .before .before .before .before .args .k) (sym (c .before .before .before .before .before .state-fits .ensures) ∙ not-false (c .before .before .before .before .if1 .left)) (sym (c .before .before .before .due-fits .ensures) ∙ not-false (c .before .before .if2 .left)) (sym (c .before .time-fits .ensures) ∙ not-true (c .if3 .taken)))
 
--- src/treatments.rt:201:5
 go-verdict-requires : tie.Need-go-verdict-requires
-go-verdict-requires c κs = ?
+go-verdict-requires c κs = row-payable (treatmentOf (c .before .before .before .before .before .before .args .t)) (c .before .before .before .before .before .before .args .date) (c .before .before .before .before .before .before .args .k) (c .before .before .before .before .before .before .pre) (sym (c .before .before .before .before .before .state-fits .ensures) ∙ not-false (c .before .before .before .before .if1 .left)) (sym (c .before .time-fits .ensures) ∙ not-false (c .if3 .left))
 
--- src/treatments.rt:187:1
 returns-4 : tie.Need-returns-4
-returns-4 c = ?
+returns-4 c = c .go-verdict .ensures ∙ sym (row-go (treatmentOf (c .before .before .before .before .before .before .before .args .t)) (c .before .before .before .before .before .before .before .args .date) (c .before .before .before .before .before .before .before .args .row) (c .before .before .before .before .before .before .before .args .k) (sym (c .before .before .before .before .before .before .state-fits .ensures) ∙ not-false (c .before .before .before .before .before .if1 .left)) (sym (c .before .before .before .before .due-fits .ensures) ∙ not-false (c .before .before .before .if2 .left)) (sym (c .before .before .time-fits .ensures) ∙ not-false (c .before .if3 .left)))
 
 pub row-verdict-spec : {M : Type 1} → statement M
 row-verdict-spec =
