@@ -1,15 +1,16 @@
 -- Events 6 to 10 as the code does them: the verdict on a collection holds all that is to be written, and what fitness gives
 -- for it. That a verdict is the model's answer and effect is proofs/Laws/Treatments. Assumes nothing.
 use mathlib.Core.Path.{_≡_}
-use mathlib.Core.Bool.{Bool, true, false}
+use mathlib.Core.Bool.{true, cond}
 use mathlib.Core.List.{List, [], _∷_}
 use Prim.Native.Nat.{ℕ, _≤_, _<_}
-use lib.Dec.{leb}
+use lib.Dec.{eqb, leb}
 use lib.IntN.{ℤ, natAbs, _+ℤ_}
 use lib.ListN.{length}
 use Rattle.common.specs.Checks.{check, judged}
 use Rattle.refusals.specs.declared.Refusal.the-variants.{UnfitMemory, BeforeLatest, NotBusinessDay, DoesNotExist, WrongState, BeforeDue, AfterLastDay}
 use Rattle.calendar.specs.Gregorian.{inRange, isDate}
+use Rattle.events.specs.declared.Event.{Event}
 use Rattle.positions.specs.Positions.{Entry, Within, positionLimit}
 use Rattle.positions.specs.Postings.{settlement}
 use Rattle.positions.specs.Compensation.{InLimits, rateLimit}
@@ -51,6 +52,13 @@ abbrev pub treatmentOf : CodeTreatment → Treatment
 treatmentOf treatments.Settle = Settle
 treatmentOf treatments.Reject = Reject
 treatmentOf (treatments.Undo way) = Undo (wayOf way)
+
+-- what an event of kind 6 to 10 asks for, as in the model's `actionOf`
+abbrev pub wayIn : Event → Way
+wayIn e = cond (eqb (e .kind) 8) ByReturn (cond (eqb (e .kind) 9) (ByRefund (e .b) (e .code)) ByReversal)
+
+abbrev pub treatmentIn : Event → Treatment
+treatmentIn e = cond (eqb (e .kind) 6) Settle (cond (eqb (e .kind) 7) Reject (Undo (wayIn e)))
 
 -- the rate of a refund, 0 of another undoing
 abbrev pub rateOf : Way → ℕ

@@ -11,12 +11,13 @@ ghost use Rattle.model.specs.Checks.{isPresented, isSettled, settledOn, dayTrea
 ghost use Rattle.model.specs.Effects.{undoingOf as undoingIn, stateAfter, treated as treatedBy};
 ghost use Rattle.book.specs.declared.treatments.Verdict.the-variants.{Post};
 ghost use Rattle.book.specs.Calls.{Done};
-ghost use Rattle.book.specs.Treatments.{wayOf, treatmentOf, postVerdict, goVerdict, rowVerdict, verdictOf, headerAfter, afterVerdict, Payable, RowReady, Judgeable, Postable, Ready};
+ghost use Rattle.book.specs.Treatments.{wayOf, treatmentOf, wayIn, treatmentIn, postVerdict, goVerdict, rowVerdict, verdictOf, headerAfter, afterVerdict, Payable, RowReady, Judgeable, Postable, Ready};
 use crate::Outcome;
 use crate::undoing::Way;
 use crate::undoing::is_in_time;
 use crate::undoing::undone;
 use calendar::target::is_business_day;
+use events::Event;
 use model::Answer;
 use positions::Postings;
 use positions::PostingsAnswer;
@@ -37,6 +38,32 @@ pub enum Treatment {
     Settle,
     Reject,
     Undo(Way),
+}
+
+// How an event of kind 8, 9 or 10 undoes a collection.
+fn way_of(e: Event) -> Way
+    ensures { λ r. ⌜ wayOf r ≡ wayIn e ⌝ }
+{
+    if e.kind == 8 {
+        return Way::ByReturn;
+    }
+    if e.kind == 9 {
+        return Way::ByRefund(e.b, e.code);
+    }
+    Way::ByReversal
+}
+
+// What an event of kind 6 to 10 asks for.
+pub fn treatment_of(e: Event) -> Treatment
+    ensures { λ r. ⌜ treatmentOf r ≡ treatmentIn e ⌝ }
+{
+    if e.kind == 6 {
+        return Treatment::Settle;
+    }
+    if e.kind == 7 {
+        return Treatment::Reject;
+    }
+    Treatment::Undo(way_of(e))
 }
 
 // Refuse; or write the collection to its row, alone or with the amounts to post.

@@ -5,9 +5,9 @@ use mathlib.Core.Path.{_≡_, refl, sym, _∙_, ap}
 use mathlib.Core.Bool.{Bool, true, false, cond, not}
 use mathlib.Core.List.{List, [], _∷_}
 use mathlib.Core.Logic.{⊎-elim}
-use Prim.Native.Nat.{ℕ, _+_, _-_, _*_, _≤_, _<_}
+use Prim.Native.Nat.{ℕ, zero, suc, _+_, _-_, _*_, _≤_, _<_}
 use native.Mathlib.Omega.{arith}
-use borrow.Author.Tests.{leb-true, le-leb, lt-leb, ltb-true, ltb-false}
+use borrow.Author.Tests.{leb-true, le-leb, lt-leb, ltb-true, ltb-false, eqb-true, ne-eqb}
 use lib.Dec.{eqb, leb, ltb}
 use lib.IntN.{ℤ, pos, natAbs, _+ℤ_, +ℤ-idr}
 use lib.ListN.{length, getD, List·getD-eq-default}
@@ -28,6 +28,8 @@ use Rattle.calendar.proofs.Laws.DayNumber.{dayNumber-mono-le}
 use Rattle.calendar.proofs.Laws.Answers.{dayOf-is}
 use Rattle.calendar.proofs.Laws.Periods.{daysBetween-days}
 use Rattle.calendar.proofs.Laws.PeriodEnds.{longest, range-period-end}
+use Rattle.events.specs.declared.Event.{Event}
+use Rattle.events.proofs.Laws.Limits.{Limited, refund-facts}
 use Rattle.positions.specs.Positions.{Entry, Within, positionLimit, position, posted}
 use Rattle.positions.specs.Postings.{settlement, reversed, refunded}
 use Rattle.positions.specs.Compensation.{InLimits, compensation, compensationOf, rateLimit, daysLimit}
@@ -52,10 +54,13 @@ use Rattle.tables.specs.declared.Header.{Header}
 use Rattle.tables.specs.Ledger.{Ledger, ledger}
 use Rattle.tables.specs.Lookup.{lookup}
 use Rattle.tables.specs.Rows.{collectionAt, putCollection}
+use Rattle.tables.specs.Records.{stateTag, stateDay}
+use Rattle.tables.specs.Fitness.{dayFit, positionsFit, fit}
 use Rattle.tables.proofs.Laws.Lookup.{lookup-at, existing-used}
+use Rattle.tables.proofs.Laws.Fitness.{position-facts, compensation-facts, day-facts, CollectionFit, creditorsFit-at, positionsFit-at, fit-facts, fit-collection}
 use Rattle.model.specs.declared.Answer.{Answer}
 use Rattle.model.specs.declared.Answer.the-variants.{Accepted, Refused}
-use Rattle.model.specs.Actions.{Way, Treatment}
+use Rattle.model.specs.Actions.{Way, Treatment, actionOf}
 use Rattle.model.specs.Actions.Way.{ByReturn, ByRefund, ByReversal}
 use Rattle.model.specs.Actions.Treatment.{Settle, Reject, Undo}
 use Rattle.model.specs.Actions.Action.{Treat}
@@ -68,7 +73,7 @@ use Rattle.book.specs.declared.Outcome.{Outcome}
 use Rattle.book.specs.Calls.{Done}
 use Rattle.book.specs.declared.treatments.Verdict.{Verdict}
 use Rattle.book.specs.declared.treatments.Verdict.the-variants.{Refuse, Mark, Post}
-use Rattle.book.specs.Treatments.{rateOf, postVerdict, goVerdict, rowVerdict, foundVerdict, verdictOf, answerIn, headerAfter, afterVerdict, Refundable, Payable, Treatable, Asked, RowReady, Judgeable, Held, Ready, Postable}
+use Rattle.book.specs.Treatments.{wayIn, treatmentIn, rateOf, postVerdict, goVerdict, rowVerdict, foundVerdict, verdictOf, answerIn, headerAfter, afterVerdict, Refundable, Payable, Treatable, Asked, RowReady, Judgeable, Held, Ready, Postable}
 
 -- ---- the postings of a refund
 
@@ -444,3 +449,109 @@ module _ (t : Treatment) (latest date : ℕ) (total : ℤ) (cs : List ℕ) (used
   pub verdict-postable : verdictOf t latest date cs used number ≡ Post row' k' p → Postable k' p total cp dp bp
   unfolding verdictOf
   verdict-postable e = tests-post (leb latest date) (dayTreated t date) refl e
+
+-- ---- a fit ledger is ready
+
+in-table : (count : ℕ) (positions : List ℤ) → length positions ≡ count
+    → ((i : ℕ) → i < count → natAbs (getD positions i (pos 0)) ≤ positionLimit)
+    → Held count positions
+unfolding position
+in-table count positions size f = record { size = size; bounded = bounded }
+  where
+    by-place : (i : ℕ) (b : Bool) → ltb i (length positions) ≡ b → natAbs (getD positions i (pos 0)) ≤ positionLimit
+    by-place i true e = f i (omega (arith, ltb-true i (length positions) e))
+    by-place i false e = rw (List·getD-eq-default positions (pos 0) (ltb-false i (length positions) e)) (omega arith)
+
+    bounded : (k : ℕ) → natAbs (position positions k) ≤ positionLimit
+    bounded zero = omega arith
+    bounded (suc i) = by-place i (ltb i (length positions)) refl
+
+fit-held : (count : ℕ) (positions : List ℤ) → length positions ≡ count → positionsFit positions ≡ true → Held count positions
+fit-held count positions size e =
+    in-table count positions size (λ i h. position-facts (getD positions i (pos 0)) (positionsFit-at positions e i (omega (arith, size))))
+
+-- the settled day of a state that fits
+settled-day : (latest day : ℕ) (s : State) → dayFit latest (stateTag s) (stateDay s) ≡ true → s ≡ Settled day → (inRange day ≡ true) × (day ≤ latest)
+settled-day latest day Presented e q = let z : _≡_ {A = ℕ} 0 1 = cc in absurd (omega arith)
+settled-day latest day Rejected e q = let z : _≡_ {A = ℕ} 0 1 = cc in absurd (omega arith)
+settled-day latest day (Settled x) e q =
+    let p : x ≡ day = cc in
+    let f = day-facts latest x e in
+    rw (← p) (f .date, f .to)
+settled-day latest day (Undone x by) e q = let z : _≡_ {A = ℕ} 0 1 = cc in absurd (omega arith)
+
+fit-treatable : (latest : ℕ) (creditors : List ℕ) (k : Collection) → CollectionFit latest creditors k → Treatable latest k
+fit-treatable latest creditors k f = record {
+  creditor = (f .creditor-fit .from, f .creditor-fit .to);
+  debtor = (f .debtor-fit .from, f .debtor-fit .to);
+  cbank = (f .cbank-fit .from, f .cbank-fit .to);
+  dbank = (f .dbank-fit .from, f .dbank-fit .to);
+  amount = (f .amount-fit .from, f .amount-fit .to);
+  settled = λ day s. settled-day latest day (k .state) (f .state-fit) s;
+}
+
+pub fit-ready :
+    (l : Ledger) (date : ℕ) (t : Treatment) → fit l ≡ true → Asked t date
+    → Ready t (l .latest) date (l .compensation) (l .collections) (l .collectionsUsed) (l .creditorPositions) (l .debtorPositions) (l .bankPositions)
+fit-ready l date t e a =
+    let f = fit-facts l e in
+    record {
+      judgeable = record {
+        asked = a;
+        rows-fit = λ row h. fit-treatable (l .latest) (l .creditors) (collectionAt (l .collections) row) (fit-collection l e row h);
+      };
+      creditors = in-table creditorCount (l .creditorPositions) (f .sizes .creditor-positions)
+          (λ i h. position-facts (getD (l .creditorPositions) i (pos 0))
+          (creditorsFit-at (l .creditors) (l .creditorPositions) (f .creditors) i (omega (arith, f .sizes .creditor-table)) .position-fit));
+      debtors = fit-held debtorCount (l .debtorPositions) (f .sizes .debtor-positions) (f .debtors);
+      banks = fit-held bankCount (l .bankPositions) (f .sizes .bank-positions) (f .banks);
+      total-bounded = compensation-facts (l .compensation) (f .header .cents) .to;
+    }
+
+-- ---- the events of kind 6 to 10
+
+pub action-treats : (e : Event) → 6 ≤ e .kind → actionOf e ≡ Treat (e .a) (treatmentIn e)
+unfolding actionOf
+action-treats e h =
+    rw
+    (ne-eqb (e .kind) 1 (λ q. omega arith),
+    ne-eqb (e .kind) 2 (λ q. omega arith),
+    ne-eqb (e .kind) 3 (λ q. omega arith),
+    ne-eqb (e .kind) 4 (λ q. omega arith),
+    ne-eqb (e .kind) 5 (λ q. omega arith))
+    (by-kind (eqb (e .kind) 6) (eqb (e .kind) 7) (eqb (e .kind) 8) (eqb (e .kind) 9))
+  where
+    by-kind :
+        (b6 b7 b8 b9 : Bool)
+        → cond b6 (Treat (e .a) Settle)
+        (cond b7 (Treat (e .a) Reject)
+        (cond b8 (Treat (e .a) (Undo ByReturn))
+        (cond b9 (Treat (e .a) (Undo (ByRefund (e .b) (e .code))))
+        (Treat (e .a) (Undo ByReversal)))))
+        ≡ Treat (e .a) (cond b6 Settle (cond b7 Reject (Undo (cond b8 ByReturn (cond b9 (ByRefund (e .b) (e .code)) ByReversal)))))
+    by-kind true b7 b8 b9 = refl
+    by-kind false true b8 b9 = refl
+    by-kind false false true b9 = refl
+    by-kind false false false true = refl
+    by-kind false false false false = refl
+
+-- the rate of the event's way is within its limit
+way-rated : (e : Event) → Limited e → rateOf (wayIn e) ≤ rateLimit
+way-rated e m = by-kind (eqb (e .kind) 8) (eqb (e .kind) 9) refl
+  where
+    by-kind : (b8 b9 : Bool) → eqb (e .kind) 9 ≡ b9 → rateOf (cond b8 ByReturn (cond b9 (ByRefund (e .b) (e .code)) ByReversal)) ≤ rateLimit
+    by-kind true b9 q = omega arith
+    by-kind false true q = refund-facts e m (eqb-true (e .kind) 9 q) .rate .to
+    by-kind false false q = omega arith
+
+undo-way : (b6 b7 : Bool) (w way : Way) → cond b6 Settle (cond b7 Reject (Undo w)) ≡ Undo way → way ≡ w
+undo-way true b7 w way q = let z : _≡_ {A = ℕ} 0 1 = cc in absurd (omega arith)
+undo-way false true w way q = let z : _≡_ {A = ℕ} 0 1 = cc in absurd (omega arith)
+undo-way false false w way q = cc
+
+-- an event within its limits asks what a fit ledger can do
+pub event-asked : (e : Event) → Limited e → Asked (treatmentIn e) (e .date)
+event-asked e m = record {
+  in-range = m .date;
+  rated = λ way q. rw (undo-way (eqb (e .kind) 6) (eqb (e .kind) 7) (wayIn e) way q) (way-rated e m);
+}
