@@ -13,7 +13,7 @@ use Rattle.model.specs.Actions.{Presentation as ModelPresentation}
 use Rattle.model.specs.Deadlines.{keptDue, timely, lapsedFor}
 use Rattle.model.specs.Checks.{standsLive, takes}
 use Rattle.model.specs.Effects.{closes}
-use Rattle.book.specs.declared.Presentation.{Presentation}
+use Rattle.book.specs.declared.collect.Presentation.{Presentation}
 
 abbrev pub presentationOf : Presentation → ModelPresentation
 presentationOf p = record {

@@ -13,8 +13,8 @@ use Rattle.model.specs.declared.Answer.the-variants.{Accepted, Refused}
 use Rattle.model.specs.Actions.{Action, Change as ModelChange}
 use Rattle.model.specs.Actions.Change.{NewBank as ToBank, NewCreditor as ToCreditor, Cancel as ToCancelled}
 use Rattle.model.specs.Checks.{ruled}
-use Rattle.book.specs.declared.Change.{Change}
-use Rattle.book.specs.declared.Change.the-variants.{NewBank, NewCreditor, Cancel}
+use Rattle.book.specs.declared.mandates.Change.{Change}
+use Rattle.book.specs.declared.mandates.Change.the-variants.{NewBank, NewCreditor, Cancel}
 use Rattle.book.specs.declared.mandates.MandateVerdict.{MandateVerdict}
 use Rattle.book.specs.declared.mandates.MandateVerdict.the-variants.{Refuse, Go}
 

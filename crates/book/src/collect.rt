@@ -11,7 +11,6 @@ ghost use Rattle.book.specs.Calls.{Done};
 ghost use Rattle.book.specs.Mandates.{JudgedMandate};
 ghost use Rattle.book.specs.Collect.{presentationOf, standingAfter};
 use crate::Outcome;
-use crate::Presentation;
 use crate::headers::dated_header;
 use crate::mandates::MandateVerdict;
 use crate::mandates::is_found;
@@ -31,6 +30,16 @@ use tables::rows::mandate_at;
 use tables::rows::put_collection;
 use tables::rows::put_mandate;
 use tables::rows::rows_of;
+
+// A collection to be presented: the numbers of its mandate and its own, the amount in cents, the requested due date,
+// and the sequence code.
+pub struct Presentation {
+    pub mandate: u64,
+    pub collection: u64,
+    pub amount: u64,
+    pub requested: u64,
+    pub code: u64,
+}
 
 fn judge_collect(
     header: Header,

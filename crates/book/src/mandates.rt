@@ -9,7 +9,6 @@ ghost use Rattle.model.specs.Checks.{ruled, standsLive};
 ghost use Rattle.model.specs.Effects.{changed};
 ghost use Rattle.book.specs.Calls.{Done};
 ghost use Rattle.book.specs.Mandates.{isFound, changeOf, namesAdded, JudgedMandate};
-use crate::Change;
 use crate::Outcome;
 use crate::headers::dated_header;
 use model::Answer;
@@ -23,6 +22,13 @@ use tables::lookup::find;
 use tables::rows::mandate_at;
 use tables::rows::put_mandate;
 use tables::rows::rows_of;
+
+// How a mandate changes: a new debtor bank, a new creditor, or it is cancelled.
+pub enum Change {
+    NewBank(u64),
+    NewCreditor(u64),
+    Cancel,
+}
 
 // Whether a change of a mandate or a collect is accepted, and the row and the mandate that it is of.
 pub enum MandateVerdict {

@@ -24,7 +24,7 @@ use Rattle.model.specs.Deadlines.{keptDue}
 use Rattle.model.specs.Lookups.{isKnown, mandateOf, collectionOf}
 use Rattle.model.specs.Checks.{ruled}
 use Rattle.model.specs.Effects.{effect, dated, withMandates, withCollections, presentedOn, newCollection}
-use Rattle.book.specs.declared.Presentation.{Presentation}
+use Rattle.book.specs.declared.collect.Presentation.{Presentation}
 use Rattle.book.specs.Mandates.{isFound, MandateIn, GoMandate}
 use Rattle.book.specs.Collect.{presentationOf, termsAnswer, standingAfter}
 use Rattle.book.proofs.Laws.Calls.{accepted-passes}

@@ -20,8 +20,8 @@ use Rattle.model.specs.Actions.Action.{AddMandate, ChangeMandate}
 use Rattle.model.specs.Lookups.{Known, isKnown, inRow, mandateOf, collectionOf}
 use Rattle.model.specs.Checks.{ruled, changeNames, standsLive}
 use Rattle.model.specs.Effects.{effect, dated, withMandates, changed}
-use Rattle.book.specs.declared.Change.{Change}
-use Rattle.book.specs.declared.Change.the-variants.{NewBank, NewCreditor, Cancel}
+use Rattle.book.specs.declared.mandates.Change.{Change}
+use Rattle.book.specs.declared.mandates.Change.the-variants.{NewBank, NewCreditor, Cancel}
 use Rattle.book.specs.Mandates.{isFound, changeOf, namesAdded, MandateIn, GoMandate}
 use Rattle.book.proofs.Laws.Calls.{accepted-passes}
 

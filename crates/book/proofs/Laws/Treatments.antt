@@ -293,7 +293,7 @@ module _ (l : Ledger) (date number : ℕ) (t : Treatment) where
       let k = collectionAt (l .collections) row in (
         rw (e, g, q) (row-answer l date number t k row (stateFits t (k .state)) (dueTreated t (k .due) date) (timeTreated t (k .state) date)),
         rw (effect-found l date number row t q, e, g, q)
-        (row-after l date number t k row (stateFits t (k .state)) (dueTreated t (k .due) date) (timeTreated t (k .state) date)),
+            (row-after l date number t k row (stateFits t (k .state)) (dueTreated t (k .due) date) (timeTreated t (k .state) date)),
       )
 
   -- the answer and the ledger after a verdict, as the model has them
@@ -342,10 +342,10 @@ written h date row k p cs cp dp bp s r cs' cp' dp' mid bp' x y u v w ex ey eu ev
     let first = post-is bp (k .dbank) (p .dbank) (s .dbank) (omega (arith, s .banks (k .dbank))) (s .dbank-amount) in
     let room = size-posted bp (k .dbank) (k .cbank) (p .dbank) in
     let second =
-        post-is (posted bp (k .dbank) (p .dbank)) (k .cbank) (p .cbank)
-        (entry-posted bp (k .dbank) (k .cbank) (p .dbank) (s .cbank))
-        (omega (arith, room, s .banks (k .cbank), s .dbank-amount))
-        (s .cbank-amount)
+    post-is (posted bp (k .dbank) (p .dbank)) (k .cbank) (p .cbank)
+    (entry-posted bp (k .dbank) (k .cbank) (p .dbank) (s .cbank))
+    (omega (arith, room, s .banks (k .cbank), s .dbank-amount))
+    (s .cbank-amount)
     in
     rw (er, ec, ecp, edp, ebp, emid, ex, ey, eu, ev, ew, creditors, debtors, first, second)
 
@@ -513,12 +513,13 @@ fit-ready l date t e a =
 pub action-treats : (e : Event) → 6 ≤ e .kind → actionOf e ≡ Treat (e .a) (treatmentIn e)
 unfolding actionOf
 action-treats e h =
-    rw
-    (ne-eqb (e .kind) 1 (λ q. omega arith),
-    ne-eqb (e .kind) 2 (λ q. omega arith),
-    ne-eqb (e .kind) 3 (λ q. omega arith),
-    ne-eqb (e .kind) 4 (λ q. omega arith),
-    ne-eqb (e .kind) 5 (λ q. omega arith))
+    rw (
+      ne-eqb (e .kind) 1 (λ q. omega arith),
+      ne-eqb (e .kind) 2 (λ q. omega arith),
+      ne-eqb (e .kind) 3 (λ q. omega arith),
+      ne-eqb (e .kind) 4 (λ q. omega arith),
+      ne-eqb (e .kind) 5 (λ q. omega arith),
+    )
     (by-kind (eqb (e .kind) 6) (eqb (e .kind) 7) (eqb (e .kind) 8) (eqb (e .kind) 9))
   where
     by-kind :

@@ -4,9 +4,6 @@ use borrow.Author.Tests.{ne-eqb}
 use borrow.Author.Needs.{needs}
 use Rattle.book.proofs.query.figure.Statement.{statement}
 use Rattle.book.proofs.query.figure.Tie as tie
-use Rattle.book.proofs.query.figure.Reads as reads
-use Rattle.book.proofs.query.figure.Lts as lts
-use Rattle.positions.proofs.posting.position_of.Reads as position-of-reads
 
 position-of-requires : tie.Need-position-of-requires
 position-of-requires c κs = search needs

@@ -1,8 +1,6 @@
-use borrow.Author.Tests.{eq-eqb, ne-eqb}
+use borrow.Author.Tests.{ne-eqb}
 use Rattle.book.proofs.query.in_query.Statement.{statement}
 use Rattle.book.proofs.query.in_query.Tie as tie
-use Rattle.book.proofs.query.in_query.Reads as reads
-use Rattle.book.proofs.query.in_query.Lts as lts
 
 returns : tie.Need-returns
 returns c = rw (c .if1 .taken)

@@ -2,9 +2,6 @@ use borrow.Author.Tests.{ne-eqb}
 use borrow.Author.Needs.{needs}
 use Rattle.book.proofs.undoing.refund_period.Statement.{statement}
 use Rattle.book.proofs.undoing.refund_period.Tie as tie
-use Rattle.book.proofs.undoing.refund_period.Reads as reads
-use Rattle.book.proofs.undoing.refund_period.Lts as lts
-use Rattle.book.proofs.undoing.period.Reads as period-reads
 
 period-requires : tie.Need-period-requires
 period-requires c κs = search needs
