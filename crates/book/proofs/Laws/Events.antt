@@ -1,0 +1,83 @@
+-- Laws of the call for the ten events: what each kind asks for, and how the call composes. To cite: `action-creditor` to
+-- `action-treat`, `admitted-recorded`, `admitted-ready`, `taken-unfit`, `taken-refused`, `taken-done`. Assumes nothing.
+use mathlib.Core.Path.{_≡_, refl, sym, _∙_, ap}
+use mathlib.Core.Bool.{true, false}
+use mathlib.Core.Logic.{_≢_}
+use Prim.Native.Nat.{ℕ, _≤_, _<_}
+use native.Mathlib.Omega.{arith}
+use borrow.Author.Tests.{eq-eqb, ne-eqb}
+use Rattle.refusals.specs.declared.Refusal.{Refusal}
+use Rattle.refusals.specs.declared.Refusal.the-variants.{UnfitMemory}
+use Rattle.events.specs.declared.Event.{Event}
+use Rattle.events.specs.declared.limits.Checked.the-variants as events
+use Rattle.events.specs.Limits.{checked}
+use Rattle.events.proofs.Laws.Limits.{checked-facts, creditor-facts}
+use Rattle.tables.specs.declared.Header.{Header}
+use Rattle.tables.specs.declared.Mandate.{Mandate}
+use Rattle.tables.specs.Ledger.{Ledger}
+use Rattle.tables.specs.Fitness.{fit}
+use Rattle.model.specs.declared.Answer.the-variants.{Accepted, Refused}
+use Rattle.model.specs.Actions.{Change, Presentation, Treatment, newMandate, presentation, actionOf}
+use Rattle.model.specs.Actions.Action.{AddCreditor, AddMandate, ChangeMandate, Collect, Treat}
+use Rattle.model.specs.Actions.Change.{Cancel}
+use Rattle.model.specs.Step.{answer, after}
+use Rattle.book.specs.declared.Outcome.{Outcome}
+use Rattle.book.specs.Calls.{Done}
+use Rattle.book.specs.Events.{amendmentIn, Recorded, Admitted, Taken}
+use Rattle.book.specs.Treatments.{treatmentIn, Ready}
+use Rattle.book.proofs.Laws.Treatments.{fit-ready, event-asked, action-treats}
+
+-- ---- what each kind asks for
+
+module _ (e : Event) where
+  pub action-creditor : e .kind ≡ 1 → actionOf e ≡ AddCreditor (e .a) (e .b)
+  unfolding actionOf
+  action-creditor k = rw k
+
+  pub action-mandate : (m : Mandate) → m ≡ newMandate e → e .kind ≡ 2 → actionOf e ≡ AddMandate m
+  unfolding actionOf newMandate
+  action-mandate m made k = rw (k, made)
+
+  pub action-amend : (c : Change) → c ≡ amendmentIn e → e .kind ≡ 3 → actionOf e ≡ ChangeMandate (e .mandate) c
+  unfolding actionOf
+  action-amend c made k = rw (k, made)
+
+  pub action-cancel : e .kind ≡ 4 → actionOf e ≡ ChangeMandate (e .mandate) Cancel
+  unfolding actionOf
+  action-cancel k = rw k
+
+  pub action-collect : (p : Presentation) → p ≡ presentation e → e .kind ≡ 5 → actionOf e ≡ Collect p
+  unfolding actionOf
+  action-collect p made k = rw (k, made)
+
+-- ---- what fitness and limits give
+
+module _ (l : Ledger) (e : Event) (admitted : Admitted l e) where
+  pub admitted-recorded : e .kind ≤ 5 → Recorded e
+  admitted-recorded h =
+      let m = checked-facts e (admitted .is-within) in
+      record { from = m .kind .from; to = h; creditor = λ k. creditor-facts e m k .creditor .from }
+
+  pub admitted-ready :
+      (t : Treatment) → t ≡ treatmentIn e
+      → Ready t (l .latest) (e .date) (l .compensation) (l .collections) (l .collectionsUsed) (l .creditorPositions) (l .debtorPositions) (l .bankPositions)
+  admitted-ready t made =
+      rw made (fit-ready l (e .date) (treatmentIn e) (admitted .is-fit) (event-asked e (checked-facts e (admitted .is-within))))
+
+pub action-treat : (e : Event) (t : Treatment) → t ≡ treatmentIn e → 5 < e .kind → actionOf e ≡ Treat (e .a) t
+action-treat e t made h = action-treats e h ∙ ap (Treat (e .a)) (sym made)
+
+-- ---- the call
+
+module _ (l : Ledger) (e : Event) where
+  pub taken-unfit : (h : Header) → fit l ≡ false → Taken l e (record { answer = Refused UnfitMemory; header = h }) l
+  unfolding answer after
+  taken-unfit h f = record { answer-is = rw f; after-is = rw f }
+
+  pub taken-refused : (h : Header) (r : Refusal) → fit l ≡ true → checked e ≡ events.Refused r → Taken l e (record { answer = Refused r; header = h }) l
+  unfolding answer after
+  taken-refused h r f c = record { answer-is = rw (f, c); after-is = rw (f, c) }
+
+  pub taken-done : (r : Outcome) (l' : Ledger) → fit l ≡ true → checked e ≡ events.Within → Done l (e .date) (actionOf e) r l' → Taken l e r l'
+  unfolding answer after
+  taken-done r l' f c d = record { answer-is = rw (f, c) (d .answer); after-is = rw (f, c) (d .after) }

@@ -1,0 +1,2 @@
+-- What the proofs of the book cite.
+pub mod Laws

@@ -1,0 +1,12 @@
+use Rattle.book.proofs.Laws.Treatments.{sum-fits, sum-back}
+use Rattle.book.proofs.treatments.header_after.Statement.{statement}
+use Rattle.book.proofs.treatments.header_after.Tie as tie
+
+add-t4 : tie.Need-add-t4
+add-t4 c = sum-fits (c .before .before .args .header .compensation) (c .before .before .args .cents) (c .before .before .pre .0) (c .before .before .pre .1)
+
+returns : tie.Need-returns
+returns c = rw (sum-back (c .before .before .args .header .compensation) (c .before .before .args .cents) (c .before .before .pre .0) (c .before .before .pre .1))
+
+pub header-after-spec : {M : Type 1} → statement M
+header-after-spec = tie.close (tie.spec add-t4 returns)

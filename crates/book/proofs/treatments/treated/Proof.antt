@@ -1,0 +1,14 @@
+use Rattle.model.specs.Effects.{treated}
+use borrow.Author.Needs.{needs}
+use Rattle.book.proofs.treatments.treated.Statement.{statement}
+use Rattle.book.proofs.treatments.treated.Tie as tie
+
+state-after-requires : tie.Need-state-after-requires
+state-after-requires c κs = search needs
+
+returns : tie.Need-returns
+unfolding treated
+returns c = rw (c .state-after .ensures)
+
+pub treated-spec : {M : Type 1} → statement M
+treated-spec = tie.close (tie.spec state-after-requires returns)

@@ -1,0 +1,34 @@
+-- The call for the ten events: what it asks of the code for each kind, and what it promises. Assumes nothing.
+use mathlib.Core.Path.{_≡_}
+use mathlib.Core.Bool.{true, cond}
+use Prim.Native.Nat.{ℕ, _≤_}
+use lib.Dec.{eqb}
+use Rattle.events.specs.declared.Event.{Event}
+use Rattle.events.specs.declared.limits.Checked.the-variants.{Within}
+use Rattle.events.specs.Limits.{checked}
+use Rattle.tables.specs.Ledger.{Ledger}
+use Rattle.tables.specs.Fitness.{fit}
+use Rattle.model.specs.Actions.{Change}
+use Rattle.model.specs.Actions.Change.{NewBank, NewCreditor}
+use Rattle.model.specs.Step.{answer, after}
+use Rattle.book.specs.declared.Outcome.{Outcome}
+
+-- amend: code 0 a new debtor bank, code 1 a new creditor
+abbrev pub amendmentIn : Event → Change
+amendmentIn e = cond (eqb (e .code) 0) (NewBank (e .c)) (NewCreditor (e .a))
+
+-- an event of the kinds 1 to 5; the number of a creditor is not 0
+pub record Recorded (e : Event) : Type 0 where
+  pub from : 1 ≤ e .kind
+  pub to : e .kind ≤ 5
+  pub creditor : e .kind ≡ 1 → 1 ≤ e .a
+
+-- the lent memory is fit and the event within its limits
+pub record Admitted (l : Ledger) (e : Event) : Type 0 where
+  pub is-fit : fit l ≡ true
+  pub is-within : checked e ≡ Within
+
+-- the event given to the ledger l: the answer, and the ledger l' after it
+pub record Taken (l : Ledger) (e : Event) (r : Outcome) (l' : Ledger) : Type 0 where
+  pub answer-is : r .answer ≡ answer l e
+  pub after-is : l' ≡ after l e

@@ -1,0 +1,19 @@
+// The ledger: the call for the ten events, the position query, and replay. Every contract is an equation with the model.
+mod collect;
+mod creditors;
+pub mod event;
+mod headers;
+mod mandates;
+pub mod query;
+mod terms;
+mod treatments;
+mod undoing;
+
+use model::Answer;
+use tables::Header;
+
+// The answer to an event, and the header after it.
+pub struct Outcome {
+    pub answer: Answer,
+    pub header: Header,
+}
