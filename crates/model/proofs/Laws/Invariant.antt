@@ -1,5 +1,5 @@
 -- What every accepted event keeps, for any ledger and journal that agree: the tables are fit, the journal agrees, the sums are zero and
--- the positions within what the collections have moved. To cite: `Sane`, `sane-kept`, `UndoFacts` with `undo-facts`. Assumes nothing.
+-- the positions within what the collections have moved. To cite: `Safe`, `safe-kept` (the tables alone), `Sane`, `sane-kept`, `UndoFacts` with `undo-facts`. Assumes nothing.
 use mathlib.Core.Path.{_≡_, refl, sym, ap, subst, _∙_}
 use mathlib.Core.Bool.{Bool, true, not}
 use mathlib.Core.Logic.{_≢_}
@@ -21,7 +21,7 @@ use Rattle.tables.specs.declared.Mandate.{Mandate}
 use Rattle.tables.specs.declared.Collection.{Collection}
 use Rattle.tables.specs.declared.State.{State}
 use Rattle.tables.specs.declared.State.the-variants.{Presented, Settled}
-use Rattle.tables.proofs.Laws.Fitness.{Fit, fit-facts}
+use Rattle.tables.proofs.Laws.Fitness.{Fit, Sizes, fit-facts}
 use Rattle.model.specs.Actions.{Action, Change, Presentation, Treatment, Way}
 use Rattle.model.specs.Actions.Action.{AddCreditor, AddMandate, ChangeMandate, Collect, Treat}
 use Rattle.model.specs.Actions.Treatment.{Settle, Reject, Undo}
@@ -40,11 +40,15 @@ use Rattle.model.proofs.Laws.Spent.{sumRows, moved, movedAt, spent, sum
 use Rattle.model.proofs.Laws.Bounds.{Bounded, Balanced, Posting, larger, settle-posting, undo-posting, days-in-time, bounded-posted, balanced-posted}
 use Rattle.model.proofs.Laws.FitKept.{fit-creditor, fit-mandate-added, fit-change, fit-collect, fit-kept, fit-posted}
 
-pub record Sane (l : Ledger) (j : Journal) (t : (Treatment → Bool) → ℕ → ℕ) : Type 0 where
+-- the tables alone: fit, and the positions within what the collections have moved
+pub record Safe (l : Ledger) : Type 0 where
   pub fits : fit l ≡ true
+  pub bounded : Bounded l
+
+pub record Sane (l : Ledger) (j : Journal) (t : (Treatment → Bool) → ℕ → ℕ) : Type 0 where
+  pub safe : Safe l
   pub agrees : Agrees l j t
   pub balanced : Balanced l
-  pub bounded : Bounded l
 
 -- ---- what the state of a collection says
 
@@ -78,78 +82,57 @@ undo-facts l n date way t p =
 not-zero : (day : ℕ) → inRange day ≡ true → day ≢ 0
 not-zero day r z = omega (arith, range-facts day r .from)
 
--- ---- each event
+-- ---- each event keeps the tables safe
 
-module _ (l : Ledger) (j : Journal) (t t' : (Treatment → Bool) → ℕ → ℕ) (date : ℕ) (s : Sane l j t) (range : inRange date ≡ true) where
+module _ (l : Ledger) (date : ℕ) (s : Safe l) (range : inRange date ≡ true) where
   facts : Fit l
   facts = fit-facts l (s .fits)
 
   order : (a : Action) → Passed l date a → l .latest ≤ date
   order a p = leb-true (l .latest) date (p .order)
 
-  sane-creditor : (a b : ℕ) → Sound (AddCreditor a b) → Passed l date (AddCreditor a b) → Counts t t' (AddCreditor a b) → Sane (effect l date (AddCreditor a b)) (note j date (AddCreditor a b)) t'
+  -- where neither the collections nor the positions change
+  same-bounded : (l' : Ledger) → spent l' ≡ spent l → l' .creditorPositions ≡ l .creditorPositions → l' .debtorPositions ≡ l .debtorPositions → l' .bankPositions ≡ l .bankPositions → l' .compensation ≡ l .compensation → Bounded l'
+  same-bounded l' e c d b k =
+      let h = s .bounded in
+      record {
+        creditors = λ n. rw (e, c) (h .creditors n);
+        debtors = λ n. rw (e, d) (h .debtors n);
+        banks = λ n. rw (e, b) (h .banks n);
+        cents = h .cents;
+        paid = k ∙ h .paid;
+        cents-le = rw e (h .cents-le);
+      }
+
+  safe-creditor : (a b : ℕ) → Sound (AddCreditor a b) → Passed l date (AddCreditor a b) → Safe (effect l date (AddCreditor a b))
   unfolding effect spent
-  sane-creditor a b o p c =
+  safe-creditor a b o p =
       record {
         fits = fit-creditor l (s .fits) date range (order _ p) a b o;
-        agrees = agrees-creditor l j t t' date (s .agrees) a b (o .creditor) (facts .sizes .creditor-table) c;
-        balanced = record { parties = s .balanced .parties; banks = s .balanced .banks };
-        bounded =
-            record {
-              creditors = s .bounded .creditors;
-              debtors = s .bounded .debtors;
-              banks = s .bounded .banks;
-              cents = s .bounded .cents;
-              paid = s .bounded .paid;
-              cents-le = s .bounded .cents-le;
-            };
+        bounded = same-bounded (effect l date (AddCreditor a b)) refl refl refl refl refl;
       }
 
-  sane-mandate : (m : Mandate) → Sound (AddMandate m) → Passed l date (AddMandate m) → Counts t t' (AddMandate m) → Sane (effect l date (AddMandate m)) (note j date (AddMandate m)) t'
+  safe-mandate : (m : Mandate) → Sound (AddMandate m) → Passed l date (AddMandate m) → Safe (effect l date (AddMandate m))
   unfolding effect spent
-  sane-mandate m o p c =
+  safe-mandate m o p =
       let r = ltb-true (l .mandatesUsed) (rows (l .mandates)) (p .row) in
-      let u = not-known (mandateOf l (m .number)) (not-true (p .new)) in
       record {
         fits = fit-mandate-added l (s .fits) date range (order _ p) m o (p .there) r;
-        agrees = agrees-mandate l j t t' date (s .agrees) m o r u c;
-        balanced = record { parties = s .balanced .parties; banks = s .balanced .banks };
-        bounded =
-            record {
-              creditors = s .bounded .creditors;
-              debtors = s .bounded .debtors;
-              banks = s .bounded .banks;
-              cents = s .bounded .cents;
-              paid = s .bounded .paid;
-              cents-le = s .bounded .cents-le;
-            };
+        bounded = same-bounded (effect l date (AddMandate m)) refl refl refl refl refl;
       }
 
-  -- the ledger with one mandate row anew
-  bounded-kept : (row : ℕ) (m : Mandate) → Bounded (keepMandate (dated l date) row m)
+  -- a mandate row anew
+  kept-bounded : (row : ℕ) (m : Mandate) → Bounded (keepMandate (dated l date) row m)
   unfolding spent
-  bounded-kept row m =
-      record {
-        creditors = s .bounded .creditors;
-        debtors = s .bounded .debtors;
-        banks = s .bounded .banks;
-        cents = s .bounded .cents;
-        paid = s .bounded .paid;
-        cents-le = s .bounded .cents-le;
-      }
+  kept-bounded row m = same-bounded (keepMandate (dated l date) row m) refl refl refl refl refl
 
-  balanced-kept : (row : ℕ) (m : Mandate) → Balanced (keepMandate (dated l date) row m)
-  balanced-kept row m = record { parties = s .balanced .parties; banks = s .balanced .banks }
-
-  sane-change : (n : ℕ) (x : Change) → Sound (ChangeMandate n x) → Passed l date (ChangeMandate n x) → Counts t t' (ChangeMandate n x) → Sane (effect l date (ChangeMandate n x)) (note j date (ChangeMandate n x)) t'
-  sane-change n x o p c =
+  safe-change : (n : ℕ) (x : Change) → Sound (ChangeMandate n x) → Passed l date (ChangeMandate n x) → Safe (effect l date (ChangeMandate n x))
+  safe-change n x o p =
       let q = and-halves (isKnown (mandateOf l n)) (p .there) in
       let h = mandate-there l n (s .fits) (q .0) in
       record {
         fits = fit-change l (s .fits) date range (order _ p) n x h o (q .1);
-        agrees = agrees-change l j t t' date (s .agrees) n x h c;
-        balanced = rw (effect-change l date n x h) (balanced-kept (h .row) (changed x (h .mandate)));
-        bounded = rw (effect-change l date n x h) (bounded-kept (h .row) (changed x (h .mandate)));
+        bounded = rw (effect-change l date n x h) (kept-bounded (h .row) (changed x (h .mandate)));
       }
 
   -- a presented row has moved nothing
@@ -157,27 +140,13 @@ module _ (l : Ledger) (j : Journal) (t t' : (Treatment → Bool) → ℕ → ℕ
   unfolding spent newCollection
   spent-collect p h r = omega (arith, sum-added (l .collections) (l .collectionsUsed) (newCollection (l .creditors) p (h .mandate)) r)
 
-  sane-collect : (p : Presentation) → Sound (Collect p) → Passed l date (Collect p) → Counts t t' (Collect p) → Sane (effect l date (Collect p)) (note j date (Collect p)) t'
-  sane-collect p o q c =
+  safe-collect : (p : Presentation) → Sound (Collect p) → Passed l date (Collect p) → Safe (effect l date (Collect p))
+  safe-collect p o q =
       let h = mandate-there l (p .mandate) (s .fits) (q .there) in
       let r = ltb-true (l .collectionsUsed) (rows (l .collections)) (q .row) in
-      let u = not-known (collectionOf l (p .collection)) (not-true (q .new)) in
-      let e = spent-collect p h r in
-      let b = s .bounded in
       record {
         fits = fit-collect l (s .fits) date range (order _ q) p h o r;
-        agrees = agrees-collect l j t t' date (s .agrees) p h r u c;
-        balanced = rw (effect-collect l date p h) (record { parties = s .balanced .parties; banks = s .balanced .banks });
-        bounded =
-            rw (effect-collect l date p h)
-            (record {
-              creditors = λ n. omega (arith, e, b .creditors n);
-              debtors = λ n. omega (arith, e, b .debtors n);
-              banks = λ n. omega (arith, e, b .banks n);
-              cents = b .cents;
-              paid = b .paid;
-              cents-le = omega (arith, e, b .cents-le);
-            });
+        bounded = rw (effect-collect l date p h) (same-bounded _ (spent-collect p h r) refl refl refl refl);
       }
 
   -- ---- events 6 to 10
@@ -203,82 +172,135 @@ module _ (l : Ledger) (j : Journal) (t t' : (Treatment → Bool) → ℕ → ℕ
     unfolding treated
     moved-undo way day p st = omega (arith, spent-posted (Undo way) p, spent-treated (Undo way), ap moved st)
 
-    balanced-treated : (tr : Treatment) (p : Postings) (m : ℕ) → Posting m p → Balanced (withPostings (keepCollection (dated l date) (h .row) (treated tr date (h .collection))) (h .collection) p)
-    balanced-treated tr p m q =
-        let a = s .agrees in
-        let z = facts .sizes in
-        balanced-posted l date (h .row) (treated tr date (h .collection)) (h .collection) p m q (s .balanced)
-        (creditor-entry l j t t' date a z n h) (debtor-entry l j t t' date a z n h) (dbank-entry l j t t' date a z n h)
-        (cbank-entry l j t t' date a z n h)
-
     presented : (tr : Treatment) → (stateFits tr (h .collection .state) ≡ isPresented (h .collection .state)) → Passed l date (Treat n tr) → h .collection .state ≡ Presented
     presented tr e p =
         is-presented (h .collection .state) (sym e ∙ of-known (λ (k : Collection). stateFits tr (k .state)) (h .is) (p .state))
 
-    sane-settle : Passed l date (Treat n Settle) → Counts t t' (Treat n Settle) → Sane (effect l date (Treat n Settle)) (note j date (Treat n Settle)) t'
-    sane-settle p c =
-        let st = presented Settle refl p in
-        let A = h .collection .amount in
-        let q = larger (h .fits .amount-fit .to) (settle-posting A) in
-        let b = bounded-posted l date (h .row) (treated Settle date (h .collection)) (h .collection) (settlement A) amountLimit q (s .bounded) (moved-settle st) in
-        record {
-          fits = rw (effect-treat l date n Settle h) (fit-posted l (s .fits) date range (order _ p) n h Settle (settlement A) b);
-          agrees = agrees-settle l j t t' date (s .agrees) (facts .sizes) n h st c;
-          balanced = rw (effect-treat l date n Settle h) (balanced-treated Settle (settlement A) amountLimit q);
-          bounded = rw (effect-treat l date n Settle h) b;
-        }
+    -- what a settle and an undoing post, by their size
+    settle-post : Posting amountLimit (settlement (h .collection .amount))
+    settle-post = larger (h .fits .amount-fit .to) (settle-posting (h .collection .amount))
 
-    sane-reject : Passed l date (Treat n Reject) → Counts t t' (Treat n Reject) → Sane (effect l date (Treat n Reject)) (note j date (Treat n Reject)) t'
+    undo-post : (way : Way) → SoundWay way → UndoFacts l n date way h → Posting (amountLimit + compensationLimit) (undone way (h .collection .amount) (settledOn (h .collection .state)) date)
+    undo-post way o u =
+        subst (λ (i : ℕ). Posting (amountLimit + compensationLimit) (undone way (h .collection .amount) i date)) (sym (ap settledOn (u .state)))
+        (undo-posting way (h .collection .amount) (u .day) date o (h .fits .amount-fit .to)
+        (days-in-time way (u .day) date (u .real) range (u .in-time)))
+
+    safe-settle : Passed l date (Treat n Settle) → Safe (effect l date (Treat n Settle))
+    safe-settle p =
+        let b = bounded-posted l date (h .row) (treated Settle date (h .collection)) (h .collection) (settlement (h .collection .amount)) amountLimit settle-post (s .bounded) (moved-settle (presented Settle refl p)) in
+        rw (effect-treat l date n Settle h)
+        (record { fits = fit-posted l (s .fits) date range (order _ p) n h Settle (settlement (h .collection .amount)) b; bounded = b })
+
+    safe-reject : Passed l date (Treat n Reject) → Safe (effect l date (Treat n Reject))
     unfolding treated
-    sane-reject p c =
-        let st = presented Reject refl p in
-        let e : spent (keepCollection (dated l date) (h .row) (treated Reject date (h .collection))) ≡ spent l = omega (arith, spent-treated Reject, ap moved st) in
-        let b = s .bounded in
-        record {
-          fits = rw (effect-treat l date n Reject h) (fit-kept l (s .fits) date range (order _ p) n h Reject);
-          agrees = agrees-reject l j t t' date (s .agrees) (facts .sizes) n h st c;
-          balanced = rw (effect-treat l date n Reject h) (record { parties = s .balanced .parties; banks = s .balanced .banks });
-          bounded =
-              rw (effect-treat l date n Reject h)
-              (record {
-                creditors = λ i. omega (arith, e, b .creditors i);
-                debtors = λ i. omega (arith, e, b .debtors i);
-                banks = λ i. omega (arith, e, b .banks i);
-                cents = b .cents;
-                paid = b .paid;
-                cents-le = omega (arith, e, b .cents-le);
-              });
-        }
+    safe-reject p =
+        let e : spent (keepCollection (dated l date) (h .row) (treated Reject date (h .collection))) ≡ spent l = omega (arith, spent-treated Reject, ap moved (presented Reject refl p)) in
+        rw (effect-treat l date n Reject h)
+        (record {
+          fits = fit-kept l (s .fits) date range (order _ p) n h Reject;
+          bounded = same-bounded (keepCollection (dated l date) (h .row) (treated Reject date (h .collection))) e refl refl refl refl;
+        })
 
-    sane-undo : (way : Way) → SoundWay way → Passed l date (Treat n (Undo way)) → Counts t t' (Treat n (Undo way)) → Sane (effect l date (Treat n (Undo way))) (note j date (Treat n (Undo way))) t'
-    sane-undo way o p c =
+    safe-undo : (way : Way) → SoundWay way → Passed l date (Treat n (Undo way)) → Safe (effect l date (Treat n (Undo way)))
+    safe-undo way o p =
         let u = undo-facts l n date way h p in
-        let A = h .collection .amount in
-        let post = undone way A (settledOn (h .collection .state)) date in
-        let d = days-in-time way (u .day) date (u .real) range (u .in-time) in
-        let e : settledOn (h .collection .state) ≡ u .day = ap settledOn (u .state) in
-        let q : Posting (amountLimit + compensationLimit) post =
-        subst (λ (i : ℕ). Posting (amountLimit + compensationLimit) (undone way A i date)) (sym e)
-        (undo-posting way A (u .day) date o (h .fits .amount-fit .to) d)
-        in
-        let b = bounded-posted l date (h .row) (treated (Undo way) date (h .collection)) (h .collection) post (amountLimit + compensationLimit) q (s .bounded) (moved-undo way (u .day) post (u .state)) in
+        let post = undone way (h .collection .amount) (settledOn (h .collection .state)) date in
+        let b = bounded-posted l date (h .row) (treated (Undo way) date (h .collection)) (h .collection) post (amountLimit + compensationLimit) (undo-post way o u) (s .bounded) (moved-undo way (u .day) post (u .state)) in
+        rw (effect-treat l date n (Undo way) h)
+        (record { fits = fit-posted l (s .fits) date range (order _ p) n h (Undo way) post b; bounded = b })
+
+    safe-treat : (tr : Treatment) → Sound (Treat n tr) → Passed l date (Treat n tr) → Safe (effect l date (Treat n tr))
+    safe-treat Settle o p = safe-settle p
+    safe-treat Reject o p = safe-reject p
+    safe-treat (Undo way) o p = safe-undo way o p
+
+  pub safe-kept : (a : Action) → Sound a → Passed l date a → Safe (effect l date a)
+  safe-kept (AddCreditor a b) o p = safe-creditor a b o p
+  safe-kept (AddMandate m) o p = safe-mandate m o p
+  safe-kept (ChangeMandate n x) o p = safe-change n x o p
+  safe-kept (Collect p) o q = safe-collect p o q
+  safe-kept (Treat n tr) o p = safe-treat n (collection-there l n (s .fits) (p .there)) tr o p
+
+-- ---- each event keeps the agreement and the sums
+
+module _ (l : Ledger) (j : Journal) (t t' : (Treatment → Bool) → ℕ → ℕ) (date : ℕ) (s : Sane l j t) (range : inRange date ≡ true) where
+  fits : fit l ≡ true
+  fits = s .safe .fits
+
+  sizes : Sizes l
+  sizes = fit-facts l fits .sizes
+
+  -- where the positions do not change
+  same-balanced : (l' : Ledger) → l' .creditorPositions ≡ l .creditorPositions → l' .debtorPositions ≡ l .debtorPositions → l' .bankPositions ≡ l .bankPositions → l' .compensation ≡ l .compensation → Balanced l'
+  same-balanced l' c d b k = record { parties = rw (c, d, k) (s .balanced .parties); banks = rw b (s .balanced .banks) }
+
+  module _ (n : ℕ) (h : CollectionThere l n) where
+    balanced-treated : (tr : Treatment) (p : Postings) (m : ℕ) → Posting m p → Balanced (withPostings (keepCollection (dated l date) (h .row) (treated tr date (h .collection))) (h .collection) p)
+    balanced-treated tr p m q =
+        let a = s .agrees in
+        balanced-posted l date (h .row) (treated tr date (h .collection)) (h .collection) p m q (s .balanced)
+        (creditor-entry l j t t' date a sizes n h) (debtor-entry l j t t' date a sizes n h) (dbank-entry l j t t' date a sizes n h)
+        (cbank-entry l j t t' date a sizes n h)
+
+    record Treated (tr : Treatment) : Type 0 where
+      agrees : Agrees (effect l date (Treat n tr)) (note j date (Treat n tr)) t'
+      balanced : Balanced (effect l date (Treat n tr))
+
+    treats-kept : (tr : Treatment) → Sound (Treat n tr) → Passed l date (Treat n tr) → Counts t t' (Treat n tr) → Treated tr
+    treats-kept Settle o p c =
         record {
-          fits = rw (effect-treat l date n (Undo way) h) (fit-posted l (s .fits) date range (order _ p) n h (Undo way) post b);
-          agrees = agrees-undo l j t t' date (s .agrees) (facts .sizes) n h way (u .day) (u .state) (not-zero (u .day) (u .real)) c;
-          balanced = rw (effect-treat l date n (Undo way) h) (balanced-treated (Undo way) post (amountLimit + compensationLimit) q);
-          bounded = rw (effect-treat l date n (Undo way) h) b;
+          agrees = agrees-settle l j t t' date (s .agrees) sizes n h (presented l date (s .safe) range n h Settle refl p) c;
+          balanced =
+              rw (effect-treat l date n Settle h)
+              (balanced-treated Settle (settlement (h .collection .amount)) amountLimit (settle-post l date (s .safe) range n h));
         }
-
-    sane-treat : (tr : Treatment) → Sound (Treat n tr) → Passed l date (Treat n tr) → Counts t t' (Treat n tr) → Sane (effect l date (Treat n tr)) (note j date (Treat n tr)) t'
-    sane-treat Settle o p c = sane-settle p c
-    sane-treat Reject o p c = sane-reject p c
-    sane-treat (Undo way) o p c = sane-undo way o p c
-
-  -- ---- all ten
+    treats-kept Reject o p c =
+        record {
+          agrees = agrees-reject l j t t' date (s .agrees) sizes n h (presented l date (s .safe) range n h Reject refl p) c;
+          balanced = rw (effect-treat l date n Reject h) (same-balanced _ refl refl refl refl);
+        }
+    treats-kept (Undo way) o p c =
+        let u = undo-facts l n date way h p in
+        record {
+          agrees = agrees-undo l j t t' date (s .agrees) sizes n h way (u .day) (u .state) (not-zero (u .day) (u .real)) c;
+          balanced =
+              rw (effect-treat l date n (Undo way) h)
+              (balanced-treated (Undo way) _ (amountLimit + compensationLimit) (undo-post l date (s .safe) range n h way o u));
+        }
 
   pub sane-kept : (a : Action) → Sound a → Passed l date a → Counts t t' a → Sane (effect l date a) (note j date a) t'
-  sane-kept (AddCreditor a b) o p c = sane-creditor a b o p c
-  sane-kept (AddMandate m) o p c = sane-mandate m o p c
-  sane-kept (ChangeMandate n x) o p c = sane-change n x o p c
-  sane-kept (Collect p) o q c = sane-collect p o q c
-  sane-kept (Treat n tr) o p c = sane-treat n (collection-there l n (s .fits) (p .there)) tr o p c
+  unfolding effect
+  sane-kept (AddCreditor a b) o p c =
+      record {
+        safe = safe-kept l date (s .safe) range (AddCreditor a b) o p;
+        agrees = agrees-creditor l j t t' date (s .agrees) a b (o .creditor) (sizes .creditor-table) c;
+        balanced = same-balanced (effect l date (AddCreditor a b)) refl refl refl refl;
+      }
+  sane-kept (AddMandate m) o p c =
+      let r = ltb-true (l .mandatesUsed) (rows (l .mandates)) (p .row) in
+      let u = not-known (mandateOf l (m .number)) (not-true (p .new)) in
+      record {
+        safe = safe-kept l date (s .safe) range (AddMandate m) o p;
+        agrees = agrees-mandate l j t t' date (s .agrees) m o r u c;
+        balanced = same-balanced (effect l date (AddMandate m)) refl refl refl refl;
+      }
+  sane-kept (ChangeMandate n x) o p c =
+      let h = mandate-there l n fits (and-halves (isKnown (mandateOf l n)) (p .there) .0) in
+      record {
+        safe = safe-kept l date (s .safe) range (ChangeMandate n x) o p;
+        agrees = agrees-change l j t t' date (s .agrees) n x h c;
+        balanced = rw (effect-change l date n x h) (same-balanced _ refl refl refl refl);
+      }
+  sane-kept (Collect p) o q c =
+      let h = mandate-there l (p .mandate) fits (q .there) in
+      let r = ltb-true (l .collectionsUsed) (rows (l .collections)) (q .row) in
+      let u = not-known (collectionOf l (p .collection)) (not-true (q .new)) in
+      record {
+        safe = safe-kept l date (s .safe) range (Collect p) o q;
+        agrees = agrees-collect l j t t' date (s .agrees) p h r u c;
+        balanced = rw (effect-collect l date p h) (same-balanced _ refl refl refl refl);
+      }
+  sane-kept (Treat n tr) o p c =
+      let k = treats-kept n (collection-there l n fits (p .there)) tr o p c in
+      record { safe = safe-kept l date (s .safe) range (Treat n tr) o p; agrees = k .agrees; balanced = k .balanced }

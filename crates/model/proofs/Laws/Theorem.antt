@@ -101,7 +101,7 @@ last l e = entry e (isAccepted (answer l e))
 past-accepted : (l : Ledger) (h : List Entry) (e : Event) → Past l h → answer l e ≡ Accepted → Past (effect l (e .date) (actionOf e)) (h ++ (entry e true ∷ []))
 unfolding Past countsOf
 past-accepted l h e s a =
-    let p = accepted-passed l e (s .fits) a in
+    let p = accepted-passed l e (s .safe .fits) a in
     let o = sound-event e (p .0) in
     rw (journal-more h (entry e true))
     (sane-kept l (journal h) (countsOf h) (countsOf (h ++ (entry e true ∷ []))) (e .date) s (o .0) (actionOf e) (o .1) (p .1)
@@ -112,7 +112,7 @@ sane-same : (l : Ledger) (j : Journal) (t t' : (Treatment → Bool) → ℕ → 
 sane-same l j t t' same s =
     let g = s .agrees in
     record {
-      fits = s .fits;
+      safe = s .safe;
       agrees =
           record {
             banks = g .banks;
@@ -127,7 +127,6 @@ sane-same l j t t' same s =
             settled = λ c. same isSettle c ∙ g .settled c;
           };
       balanced = s .balanced;
-      bounded = s .bounded;
     }
 
 past-refused : (l : Ledger) (h : List Entry) (e : Event) → Past l h → Past l (h ++ (entry e false ∷ []))
@@ -172,9 +171,9 @@ module _ (l : Ledger) (h : List Entry) (s : Past l h) (date : ℕ) where
   undone-in-time : (c : ℕ) (way : Way) → Passed l date (Treat c (Undo way)) → UndoneInTime h c date way
   unfolding countsOf
   undone-in-time c way p =
-      let t = collection-there l c (sane .fits) (p .there) in
+      let t = collection-there l c (sane .safe .fits) (p .there) in
       let u = undo-facts l c date way t p in
-      let n = noted-there l (journal h) (countsOf h) (countsOf h) date (sane .agrees) (fit-facts l (sane .fits) .sizes) c t in
+      let n = noted-there l (journal h) (countsOf h) (countsOf h) date (sane .agrees) (fit-facts l (sane .safe .fits) .sizes) c t in
       record {
         settled-once = sane .agrees .settled c ∙ ap (inKnown settlesOf) (t .is) ∙ ap settlesOf (u .state);
         collection = n .value;
@@ -185,7 +184,7 @@ module _ (l : Ledger) (h : List Entry) (s : Past l h) (date : ℕ) where
   collected-live : (p : Presentation) → Passed l date (Collect p) → CollectedLive h p
   unfolding notedOf
   collected-live p q =
-      let t = mandate-there l (p .mandate) (sane .fits) (q .there) in
+      let t = mandate-there l (p .mandate) (sane .safe .fits) (q .there) in
       record {
         mandate = notedOf (t .mandate);
         is-noted = sym (sane .agrees .mandates (p .mandate)) ∙ ap notedKnown (t .is);
@@ -198,7 +197,7 @@ module _ (l : Ledger) (h : List Entry) (s : Past l h) (date : ℕ) where
 in-turn : (l : Ledger) (h : List Entry) (e : Event) → Past l h → InTurn h (last l e)
 unfolding last Past
 in-turn l h e s =
-    let pass : isAccepted (answer l e) ≡ true → Passed l (e .date) (actionOf e) = λ a. accepted-passed l e (s .fits) (is-accepted (answer l e) a) .1 in
+    let pass : isAccepted (answer l e) ≡ true → Passed l (e .date) (actionOf e) = λ a. accepted-passed l e (s .safe .fits) (is-accepted (answer l e) a) .1 in
     record {
       undone = λ c way a i. undone-in-time l h s (e .date) c way (subst (Passed l (e .date)) i (pass a));
       collected = λ p a i. collected-live l h s (e .date) p (subst (Passed l (e .date)) i (pass a));
@@ -244,7 +243,19 @@ module _ (t : Ledger) (z : sizesFit t ≡ true) where
   opening-past =
       rw (opened-done t z)
       (record {
-        fits = fresh-fit t z;
+        safe =
+            record {
+              fits = fresh-fit t z;
+              bounded =
+                  record {
+                    creditors = λ n. rw (position-zeros creditorCount n) (omega arith);
+                    debtors = λ n. rw (position-zeros debtorCount n) (omega arith);
+                    banks = λ n. rw (position-zeros bankCount n) (omega arith);
+                    cents = 0;
+                    paid = refl;
+                    cents-le = omega arith;
+                  };
+            };
         agrees =
             record {
               banks = no-bank creditorCount;
@@ -262,15 +273,6 @@ module _ (t : Ledger) (z : sizesFit t ≡ true) where
             record {
               parties = rw (total-zeros creditorCount, total-zeros debtorCount);
               banks = total-zeros bankCount;
-            };
-        bounded =
-            record {
-              creditors = λ n. rw (position-zeros creditorCount n) (omega arith);
-              debtors = λ n. rw (position-zeros debtorCount n) (omega arith);
-              banks = λ n. rw (position-zeros bankCount n) (omega arith);
-              cents = 0;
-              paid = refl;
-              cents-le = omega arith;
             };
       })
 
@@ -325,7 +327,7 @@ module _ (l : Ledger) (es : List Event) (r : RunKeeps l [] es) where
   pub kept : Kept l es
   unfolding countsOf
   kept =
-      let f = end .fits in
+      let f = end .safe .fits in
       let z = fit-facts (run l es) f .sizes in
       let lim : (n m : ℕ) → 1 ≤ n → n ≤ m → leb 1 n && leb n m ≡ true = λ n m a b. both (le-leb 1 n a) (le-leb n m b) in
       let creditors = sum-answers (run l es) f 1 creditorCount (run l es .creditorPositions) (z .creditor-positions) (λ n a b. lim n creditorCount a b) (λ n. refl) in
