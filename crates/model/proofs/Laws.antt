@@ -13,3 +13,4 @@ pub mod Invariant  -- what every accepted event keeps
 pub mod Lists  -- the journal and the counts after one more entry
 pub mod Sums  -- the sum of what the ledger answers
 pub mod Theorem  -- demand 3, proved
+pub mod Batch  -- a list of events keeps the tables safe

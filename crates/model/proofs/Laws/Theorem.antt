@@ -69,7 +69,7 @@ module _ (l : Ledger) (e : Event) (f : fit l ≡ true) where
       let p = checked-passed (checked e) (ruled l (e .date) (actionOf e)) (sym answer-fit ∙ h) in
       (p .0, passed l (e .date) (actionOf e) (p .1))
 
-after-accepted : (l : Ledger) (e : Event) → answer l e ≡ Accepted → after l e ≡ effect l (e .date) (actionOf e)
+pub after-accepted : (l : Ledger) (e : Event) → answer l e ≡ Accepted → after l e ≡ effect l (e .date) (actionOf e)
 unfolding after
 after-accepted l e h = rw h
 
@@ -77,21 +77,21 @@ is-refused : (a : Answer) → isAccepted a ≡ false → (c l : Ledger) → afte
 is-refused Accepted h c l = absurd (never refl h)
 is-refused (Refused r) h c l = refl
 
-after-refused : (l : Ledger) (e : Event) → isAccepted (answer l e) ≡ false → after l e ≡ l
+pub after-refused : (l : Ledger) (e : Event) → isAccepted (answer l e) ≡ false → after l e ≡ l
 unfolding after
 after-refused l e h = is-refused (answer l e) h (effect l (e .date) (actionOf e)) l
 
-is-accepted : (a : Answer) → isAccepted a ≡ true → a ≡ Accepted
+pub is-accepted : (a : Answer) → isAccepted a ≡ true → a ≡ Accepted
 is-accepted Accepted h = refl
 is-accepted (Refused r) h = absurd (never h refl)
 
 -- ---- the invariant over a history
 
 -- the counts of a history
-countsOf : List Entry → (Treatment → Bool) → ℕ → ℕ
+unfoldable pub countsOf : List Entry → (Treatment → Bool) → ℕ → ℕ
 countsOf h sort c = times sort c h
 
-pub Past : Ledger → List Entry → Type 0
+unfoldable pub Past : Ledger → List Entry → Type 0
 Past l h = Sane l (journal h) (countsOf h)
 
 -- what the last entry of a history is
@@ -238,7 +238,7 @@ module _ (t : Ledger) (z : sizesFit t ≡ true) where
   no-row : (cells : List ℕ) (n : ℕ) → lookup cells 0 n ≡ Nothing
   no-row cells n = lookup-none cells 0 n (λ j l. absurd (omega (arith, existing-used cells 0)))
 
-  opening-past : Past (opened t) []
+  pub opening-past : Past (opened t) []
   unfolding Past countsOf times journalFrom mandateOf collectionOf fresh
   opening-past =
       rw (opened-done t z)
