@@ -1,4 +1,3 @@
 -- What the contracts of the book cite besides the model.
 pub mod Calls  -- an event done to a ledger
 pub mod Treatments  -- events 6 to 10: verdicts, and what fitness gives
-pub mod Queries  -- the figure of a position query

@@ -1,6 +1,4 @@
-use Rattle.book.specs.Queries.{figureIn}
 use Rattle.tables.specs.Fitness.{fit}
-use lib.IntN.{ℤ}
 use mathlib.Core.Bool.{true}
 use mir.Syntax.{w64}
 use Rattle.model.specs.declared.QueryAnswer.the-variants.{Figure}
@@ -8,7 +6,7 @@ use Rattle.tables.specs.Ledger.{Ledger, ledger}
 use mathlib.Core.Path.{_≡_, refl, sym, _∙_, ap}
 use mir.Facts.{toZ-ofZ}
 use Rattle.common.proofs.Tests.{not-true, not-false}
-use Rattle.book.proofs.Laws.Queries.{query-unfit, query-outside, query-figure, query-cents}
+use Rattle.book.proofs.Laws.Queries.{query-unfit, query-outside, query-figure}
 use borrow.Author.Needs.{needs}
 use Rattle.book.proofs.query.position.Statement.{statement}
 use Rattle.book.proofs.query.position.Tie as tie
@@ -46,13 +44,12 @@ figure-requires c κs = search needs
 
 returns-3 : tie.Need-returns-3
 returns-3 c =
-    let s = c .before .before .before .before .before .before .before .before .before in
-    let fits : fit (book s) ≡ true = sym (c .before .before .before .before .before .is-fit .ensures) ∙ not-false (c .before .before .before .before .if1 .left) in
+    let s = c .before .before .before .before .before .before .before .before in
+    let fits : fit (book s) ≡ true = sym (c .before .before .before .before .is-fit .ensures) ∙ not-false (c .before .before .before .if1 .left) in
     ap Figure
     (toZ-ofZ {w = w64} (record { sfits = c .figure .ok })
-    ∙ c .figure .ensures
-    ∙ ap (λ (z : ℤ). figureIn (s .args .kind) (s .args .number) z (s .args .creditor-positions .now) (s .args .debtor-positions .now) (s .args .bank-positions .now)) (query-cents (book s) (s .args .kind) (s .args .number) fits))
-    ∙ sym (query-figure (book s) (s .args .kind) (s .args .number) fits (sym (c .before .before .before .in-query .ensures) ∙ not-false (c .before .before .if2 .left)))
+    ∙ c .figure .ensures (s .args .mandates .now) (s .args .collections .now) (s .args .creditors .now))
+    ∙ sym (query-figure (book s) (s .args .kind) (s .args .number) fits (sym (c .before .before .in-query .ensures) ∙ not-false (c .before .if2 .left)))
 
 pub position-spec : {M : Type 1} → statement M
 position-spec =
