@@ -1,6 +1,5 @@
 // The ledger: the call for the ten events, the position query, and replay. Every contract is an equation with the model.
 pub mod query;
-
 mod treatments;
 mod undoing;
 

@@ -4,7 +4,6 @@
 use mathlib.Core.Path.{_≡_, refl, sym, _∙_, ap}
 use mathlib.Core.Bool.{Bool, true, false, cond, not}
 use mathlib.Core.List.{List, [], _∷_}
-use mathlib.Core.Logic.{⊎-elim}
 use Prim.Native.Nat.{ℕ, zero, suc, _+_, _-_, _*_, _≤_, _<_}
 use native.Mathlib.Omega.{arith}
 use borrow.Author.Tests.{leb-true, le-leb, lt-leb, ltb-true, ltb-false, eqb-true, ne-eqb}
@@ -14,14 +13,13 @@ use lib.ListN.{length, getD, List·getD-eq-default}
 use mir.Syntax.{w64}
 use mir.Val.{SFits, toZ, ofZ}
 use Rattle.common.specs.Checks.{check, judged}
-use Rattle.common.proofs.Tests.{never, true-or-false, not-true}
-use Rattle.refusals.specs.declared.Refusal.the-variants.{UnfitMemory, BeforeLatest, NotBusinessDay, DoesNotExist, WrongState, BeforeDue, AfterLastDay}
+use Rattle.common.proofs.Tests.{never, not-true}
+use Rattle.refusals.specs.declared.Refusal.the-variants.{BeforeLatest, NotBusinessDay, WrongState, BeforeDue, AfterLastDay}
 use Rattle.calendar.specs.Gregorian.{inRange, isDate}
 use Rattle.calendar.specs.DayNumber.{dayNumber}
-use Rattle.calendar.specs.Periods.{daysBetween, periodEnd, isAfter}
+use Rattle.calendar.specs.Periods.{daysBetween, isAfter}
 use Rattle.calendar.specs.declared.CalendarDays.{CalendarDays}
-use Rattle.calendar.specs.declared.DateAnswer.{DateAnswer}
-use Rattle.calendar.specs.declared.DateAnswer.the-variants.{Date, NoDate}
+use Rattle.calendar.specs.declared.DateAnswer.the-variants.{Date}
 use Rattle.calendar.specs.declared.DaysAnswer.the-variants.{Days, NoDays}
 use Rattle.calendar.proofs.Laws.Gregorian.{range-facts}
 use Rattle.calendar.proofs.Laws.DayNumber.{dayNumber-mono-le}
@@ -30,20 +28,20 @@ use Rattle.calendar.proofs.Laws.Periods.{daysBetween-days}
 use Rattle.calendar.proofs.Laws.PeriodEnds.{longest, range-period-end}
 use Rattle.events.specs.declared.Event.{Event}
 use Rattle.events.proofs.Laws.Limits.{Limited, refund-facts}
-use Rattle.positions.specs.Positions.{Entry, Within, positionLimit, position, posted}
+use Rattle.positions.specs.Positions.{Entry, positionLimit, position, posted}
 use Rattle.positions.specs.Postings.{settlement, reversed, refunded}
-use Rattle.positions.specs.Compensation.{InLimits, compensation, compensationOf, rateLimit, daysLimit}
-use Rattle.positions.specs.Answers.{afterPost, settlementOf, reversedOf, refundedOf}
+use Rattle.positions.specs.Compensation.{compensation, compensationOf, rateLimit}
+use Rattle.positions.specs.Answers.{afterPost, settlementOf, refundedOf}
 use Rattle.positions.specs.declared.Postings.{Postings}
 use Rattle.positions.specs.declared.PostingsAnswer.{PostingsAnswer}
-use Rattle.positions.specs.declared.PostingsAnswer.the-variants.{Amounts, OutsideLimits}
+use Rattle.positions.specs.declared.PostingsAnswer.the-variants.{Amounts}
 use Rattle.positions.specs.declared.CompensationAnswer.the-variants.{Cents, OutsideLimits as NoCents}
 use Rattle.positions.proofs.Laws.Compensation.{compensationOf-is}
 use Rattle.positions.proofs.Laws.Limits.{compensation-bound}
 use Rattle.positions.proofs.Laws.Integers.{size-add, size-fits, bits-back}
 use Rattle.positions.proofs.Laws.Positions.{entry-posted, size-posted}
 use Rattle.positions.proofs.Laws.Postings.{AtMost, settlement-size, reversed-size, refunded-size}
-use Rattle.positions.proofs.Laws.Answers.{post-fits, settlementOf-is, reversedOf-is, refundedOf-is}
+use Rattle.positions.proofs.Laws.Answers.{post-fits, settlementOf-is, refundedOf-is}
 use Rattle.tables.specs.declared.Collection.{Collection}
 use Rattle.tables.specs.declared.State.{State}
 use Rattle.tables.specs.declared.State.the-variants.{Presented, Rejected, Settled, Undone}
@@ -58,7 +56,6 @@ use Rattle.tables.specs.Records.{stateTag, stateDay}
 use Rattle.tables.specs.Fitness.{dayFit, positionsFit, fit}
 use Rattle.tables.proofs.Laws.Lookup.{lookup-at, existing-used}
 use Rattle.tables.proofs.Laws.Fitness.{position-facts, compensation-facts, day-facts, CollectionFit, creditorsFit-at, positionsFit-at, fit-facts, fit-collection}
-use Rattle.model.specs.declared.Answer.{Answer}
 use Rattle.model.specs.declared.Answer.the-variants.{Accepted, Refused}
 use Rattle.model.specs.Actions.{Way, Treatment, actionOf}
 use Rattle.model.specs.Actions.Way.{ByReturn, ByRefund, ByReversal}
@@ -293,7 +290,7 @@ module _ (l : Ledger) (date number : ℕ) (t : Treatment) where
       let k = collectionAt (l .collections) row in (
         rw (e, g, q) (row-answer l date number t k row (stateFits t (k .state)) (dueTreated t (k .due) date) (timeTreated t (k .state) date)),
         rw (effect-found l date number row t q, e, g, q)
-        (row-after l date number t k row (stateFits t (k .state)) (dueTreated t (k .due) date) (timeTreated t (k .state) date)),
+            (row-after l date number t k row (stateFits t (k .state)) (dueTreated t (k .due) date) (timeTreated t (k .state) date)),
       )
 
   -- the answer and the ledger after a verdict, as the model has them
@@ -342,10 +339,10 @@ written h date row k p cs cp dp bp s r cs' cp' dp' mid bp' x y u v w ex ey eu ev
     let first = post-is bp (k .dbank) (p .dbank) (s .dbank) (omega (arith, s .banks (k .dbank))) (s .dbank-amount) in
     let room = size-posted bp (k .dbank) (k .cbank) (p .dbank) in
     let second =
-        post-is (posted bp (k .dbank) (p .dbank)) (k .cbank) (p .cbank)
-        (entry-posted bp (k .dbank) (k .cbank) (p .dbank) (s .cbank))
-        (omega (arith, room, s .banks (k .cbank), s .dbank-amount))
-        (s .cbank-amount)
+    post-is (posted bp (k .dbank) (p .dbank)) (k .cbank) (p .cbank)
+    (entry-posted bp (k .dbank) (k .cbank) (p .dbank) (s .cbank))
+    (omega (arith, room, s .banks (k .cbank), s .dbank-amount))
+    (s .cbank-amount)
     in
     rw (er, ec, ecp, edp, ebp, emid, ex, ey, eu, ev, ew, creditors, debtors, first, second)
 
@@ -513,12 +510,13 @@ fit-ready l date t e a =
 pub action-treats : (e : Event) → 6 ≤ e .kind → actionOf e ≡ Treat (e .a) (treatmentIn e)
 unfolding actionOf
 action-treats e h =
-    rw
-    (ne-eqb (e .kind) 1 (λ q. omega arith),
-    ne-eqb (e .kind) 2 (λ q. omega arith),
-    ne-eqb (e .kind) 3 (λ q. omega arith),
-    ne-eqb (e .kind) 4 (λ q. omega arith),
-    ne-eqb (e .kind) 5 (λ q. omega arith))
+    rw (
+      ne-eqb (e .kind) 1 (λ q. omega arith),
+      ne-eqb (e .kind) 2 (λ q. omega arith),
+      ne-eqb (e .kind) 3 (λ q. omega arith),
+      ne-eqb (e .kind) 4 (λ q. omega arith),
+      ne-eqb (e .kind) 5 (λ q. omega arith),
+    )
     (by-kind (eqb (e .kind) 6) (eqb (e .kind) 7) (eqb (e .kind) 8) (eqb (e .kind) 9))
   where
     by-kind :

@@ -1,12 +1,11 @@
+-- `figure` reads the table of the kind. A signed number is read from its 64 bits.
+-- Assumes nothing.
 use mir.Syntax.{w64}
 use mir.Facts.{toZ-ofZ}
 use borrow.Author.Tests.{ne-eqb}
 use borrow.Author.Needs.{needs}
 use Rattle.book.proofs.query.figure.Statement.{statement}
 use Rattle.book.proofs.query.figure.Tie as tie
-use Rattle.book.proofs.query.figure.Reads as reads
-use Rattle.book.proofs.query.figure.Lts as lts
-use Rattle.positions.proofs.posting.position_of.Reads as position-of-reads
 
 position-of-requires : tie.Need-position-of-requires
 position-of-requires c κs = search needs

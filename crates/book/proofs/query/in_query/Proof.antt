@@ -1,8 +1,8 @@
-use borrow.Author.Tests.{eq-eqb, ne-eqb}
+-- `in_query` looks at the kind, then at the number.
+-- Assumes nothing.
+use borrow.Author.Tests.{ne-eqb}
 use Rattle.book.proofs.query.in_query.Statement.{statement}
 use Rattle.book.proofs.query.in_query.Tie as tie
-use Rattle.book.proofs.query.in_query.Reads as reads
-use Rattle.book.proofs.query.in_query.Lts as lts
 
 returns : tie.Need-returns
 returns c = rw (c .if1 .taken)

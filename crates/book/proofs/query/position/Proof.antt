@@ -1,20 +1,17 @@
+-- `position` tests the lent memory, then the kind and number, and reads the figure: the laws of `query`.
+-- Assumes nothing.
 use Rattle.tables.specs.Fitness.{fit}
 use mathlib.Core.Bool.{true}
 use mir.Syntax.{w64}
 use Rattle.model.specs.declared.QueryAnswer.the-variants.{Figure}
 use Rattle.tables.specs.Ledger.{Ledger, ledger}
-use mathlib.Core.Path.{_≡_, refl, sym, _∙_, ap}
+use mathlib.Core.Path.{_≡_, sym, _∙_, ap}
 use mir.Facts.{toZ-ofZ}
 use Rattle.common.proofs.Tests.{not-true, not-false}
 use Rattle.book.proofs.Laws.Queries.{query-unfit, query-outside, query-figure}
 use borrow.Author.Needs.{needs}
 use Rattle.book.proofs.query.position.Statement.{statement}
 use Rattle.book.proofs.query.position.Tie as tie
-use Rattle.book.proofs.query.position.Reads as reads
-use Rattle.book.proofs.query.position.Lts as lts
-use Rattle.book.proofs.query.figure.Reads as figure-reads
-use Rattle.book.proofs.query.in_query.Reads as in-query-reads
-use Rattle.tables.proofs.fitness.is_fit.Reads as is-fit-reads
 
 abbrev book : tie.Start → Ledger
 book s =

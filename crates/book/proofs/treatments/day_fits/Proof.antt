@@ -1,9 +1,8 @@
+-- Each treatment's answer is that of `dayTreated`.
+-- Assumes nothing.
 use borrow.Author.Needs.{needs}
 use Rattle.book.proofs.treatments.day_fits.Statement.{statement}
 use Rattle.book.proofs.treatments.day_fits.Tie as tie
-use Rattle.book.proofs.treatments.day_fits.Reads as reads
-use Rattle.book.proofs.treatments.day_fits.Lts as lts
-use Rattle.calendar.proofs.target.is_business_day.Reads as is-business-day-reads
 
 enum-told : tie.Need-enum-told
 enum-told c = search needs

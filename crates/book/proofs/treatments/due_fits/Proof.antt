@@ -1,8 +1,8 @@
+-- Each treatment's answer is that of `dueTreated`.
+-- Assumes nothing.
 use borrow.Author.Needs.{needs}
 use Rattle.book.proofs.treatments.due_fits.Statement.{statement}
 use Rattle.book.proofs.treatments.due_fits.Tie as tie
-use Rattle.book.proofs.treatments.due_fits.Reads as reads
-use Rattle.book.proofs.treatments.due_fits.Lts as lts
 
 enum-told : tie.Need-enum-told
 enum-told c = search needs

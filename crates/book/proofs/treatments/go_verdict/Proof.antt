@@ -1,18 +1,13 @@
-use Rattle.model.specs.Actions.Treatment.{Settle, Undo}
-use mathlib.Core.Path.{_≡_, refl, sym, _∙_, ap}
+-- `go_verdict` works out the amounts; `Payable` says that they lie within their limits.
+-- Assumes nothing.
+use Rattle.model.specs.Actions.Treatment.{Settle}
+use mathlib.Core.Path.{_∙_, ap}
 use Rattle.book.specs.Treatments.{wayOf, Payable}
 use Rattle.book.specs.Treatments.{treatmentOf}
 use Rattle.book.proofs.Laws.Treatments.{go-settle, go-undo}
 use borrow.Author.Needs.{needs}
 use Rattle.book.proofs.treatments.go_verdict.Statement.{statement}
 use Rattle.book.proofs.treatments.go_verdict.Tie as tie
-use Rattle.book.proofs.treatments.go_verdict.Reads as reads
-use Rattle.book.proofs.treatments.go_verdict.Lts as lts
-use Rattle.book.proofs.treatments.post_verdict.Reads as post-verdict-reads
-use Rattle.book.proofs.treatments.settled_on.Reads as settled-on-reads
-use Rattle.book.proofs.treatments.treated.Reads as treated-reads
-use Rattle.book.proofs.undoing.undone.Reads as undone-reads
-use Rattle.positions.proofs.amounts.settlement.Reads as settlement-reads
 
 treated-requires : tie.Need-treated-requires
 treated-requires c κs = search needs

@@ -1,8 +1,8 @@
+-- The new total compensation fits 64 bits, and reads as the sum.
+-- Assumes nothing.
 use Rattle.book.proofs.Laws.Treatments.{sum-fits, sum-back}
 use Rattle.book.proofs.treatments.header_after.Statement.{statement}
 use Rattle.book.proofs.treatments.header_after.Tie as tie
-use Rattle.book.proofs.treatments.header_after.Reads as reads
-use Rattle.book.proofs.treatments.header_after.Lts as lts
 
 add-t4 : tie.Need-add-t4
 add-t4 c = sum-fits (c .before .before .args .header .compensation) (c .before .before .args .cents) (c .before .before .pre .0) (c .before .before .pre .1)

@@ -1,18 +1,13 @@
+-- `judge` makes the tests of refusals 6, 7 and 9 in their order, and leaves the row that is found to `row_verdict`.
+-- Assumes nothing.
 use Rattle.tables.specs.declared.Found.the-variants.{Nothing}
-use Rattle.book.specs.Treatments.{rowVerdict}
-use mathlib.Core.Path.{_≡_, refl, sym, _∙_, ap}
+use mathlib.Core.Path.{sym, _∙_}
 use Rattle.common.proofs.Tests.{not-true, not-false}
 use Rattle.book.specs.Treatments.{treatmentOf}
 use Rattle.book.proofs.Laws.Treatments.{verdict-early, verdict-day, verdict-found, found-ready}
 use borrow.Author.Needs.{needs}
 use Rattle.book.proofs.treatments.judge.Statement.{statement}
 use Rattle.book.proofs.treatments.judge.Tie as tie
-use Rattle.book.proofs.treatments.judge.Reads as reads
-use Rattle.book.proofs.treatments.judge.Lts as lts
-use Rattle.book.proofs.treatments.day_fits.Reads as day-fits-reads
-use Rattle.book.proofs.treatments.row_verdict.Reads as row-verdict-reads
-use Rattle.tables.proofs.lookup.find.Reads as find-reads
-use Rattle.tables.proofs.rows.collection_at.Reads as collection-at-reads
 
 returns : tie.Need-returns
 returns c = sym (verdict-early (treatmentOf (c .before .before .before .args .t)) (c .before .before .before .args .header .latest) (c .before .before .before .args .date) (c .before .before .before .args .collections .now) (c .before .before .before .args .header .collections) (c .before .before .before .args .number) (c .if1 .taken))

@@ -1,16 +1,12 @@
-use mathlib.Core.Path.{_≡_, refl, sym, _∙_, ap}
+-- `row_verdict` makes the tests of refusals 15 to 17 in their order.
+-- Assumes nothing.
+use mathlib.Core.Path.{sym, _∙_}
 use Rattle.common.proofs.Tests.{not-true, not-false}
 use Rattle.book.specs.Treatments.{treatmentOf}
 use Rattle.book.proofs.Laws.Treatments.{row-state, row-due, row-time, row-go, row-payable}
 use borrow.Author.Needs.{needs}
 use Rattle.book.proofs.treatments.row_verdict.Statement.{statement}
 use Rattle.book.proofs.treatments.row_verdict.Tie as tie
-use Rattle.book.proofs.treatments.row_verdict.Reads as reads
-use Rattle.book.proofs.treatments.row_verdict.Lts as lts
-use Rattle.book.proofs.treatments.due_fits.Reads as due-fits-reads
-use Rattle.book.proofs.treatments.go_verdict.Reads as go-verdict-reads
-use Rattle.book.proofs.treatments.state_fits.Reads as state-fits-reads
-use Rattle.book.proofs.treatments.time_fits.Reads as time-fits-reads
 
 state-fits-requires : tie.Need-state-fits-requires
 state-fits-requires c κs = search needs

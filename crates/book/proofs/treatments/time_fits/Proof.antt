@@ -1,10 +1,8 @@
+-- Each treatment's answer is that of `timeTreated`.
+-- Assumes nothing.
 use borrow.Author.Needs.{needs}
 use Rattle.book.proofs.treatments.time_fits.Statement.{statement}
 use Rattle.book.proofs.treatments.time_fits.Tie as tie
-use Rattle.book.proofs.treatments.time_fits.Reads as reads
-use Rattle.book.proofs.treatments.time_fits.Lts as lts
-use Rattle.book.proofs.treatments.settled_on.Reads as settled-on-reads
-use Rattle.book.proofs.undoing.is_in_time.Reads as is-in-time-reads
 
 enum-told : tie.Need-enum-told
 enum-told c = search needs

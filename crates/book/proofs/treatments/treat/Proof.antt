@@ -1,18 +1,14 @@
+-- `treat` writes what the verdict says; `treat-done` says that this is the model's answer and effect.
+-- Assumes nothing.
 use Rattle.tables.specs.Ledger.{Ledger, ledger}
 use Prim.Native.Nat.{ℕ}
 use mathlib.Core.List.{List}
-use mathlib.Core.Path.{_≡_, refl, sym, _∙_}
+use mathlib.Core.Path.{refl, sym, _∙_}
 use Rattle.book.specs.Treatments.{treatmentOf}
 use Rattle.book.proofs.Laws.Treatments.{verdict-postable, treat-done, marked}
 use borrow.Author.Needs.{needs}
 use Rattle.book.proofs.treatments.treat.Statement.{statement}
 use Rattle.book.proofs.treatments.treat.Tie as tie
-use Rattle.book.proofs.treatments.treat.Reads as reads
-use Rattle.book.proofs.treatments.treat.Lts as lts
-use Rattle.book.proofs.treatments.header_after.Reads as header-after-reads
-use Rattle.book.proofs.treatments.judge.Reads as judge-reads
-use Rattle.book.proofs.treatments.write.Reads as write-reads
-use Rattle.tables.proofs.rows.put_collection.Reads as put-collection-reads
 
 -- the ledger, with any mandates and creditors
 abbrev book : tie.Start → List ℕ → List ℕ → Ledger

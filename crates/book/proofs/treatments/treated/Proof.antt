@@ -1,10 +1,9 @@
+-- `treated` makes the record anew, field by field.
+-- Assumes nothing.
 use Rattle.model.specs.Effects.{treated}
 use borrow.Author.Needs.{needs}
 use Rattle.book.proofs.treatments.treated.Statement.{statement}
 use Rattle.book.proofs.treatments.treated.Tie as tie
-use Rattle.book.proofs.treatments.treated.Reads as reads
-use Rattle.book.proofs.treatments.treated.Lts as lts
-use Rattle.book.proofs.treatments.state_after.Reads as state-after-reads
 
 state-after-requires : tie.Need-state-after-requires
 state-after-requires c κs = search needs

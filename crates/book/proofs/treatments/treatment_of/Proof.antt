@@ -1,10 +1,9 @@
+-- `treatment_of` looks at the kind, as `treatmentIn` does.
+-- Assumes nothing.
 use borrow.Author.Tests.{ne-eqb}
 use borrow.Author.Needs.{needs}
 use Rattle.book.proofs.treatments.treatment_of.Statement.{statement}
 use Rattle.book.proofs.treatments.treatment_of.Tie as tie
-use Rattle.book.proofs.treatments.treatment_of.Reads as reads
-use Rattle.book.proofs.treatments.treatment_of.Lts as lts
-use Rattle.book.proofs.treatments.way_of.Reads as way-of-reads
 
 returns : tie.Need-returns
 returns c = rw (c .if1 .taken)

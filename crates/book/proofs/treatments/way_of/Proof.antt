@@ -1,8 +1,8 @@
+-- `way_of` looks at the kind, as `wayIn` does.
+-- Assumes nothing.
 use borrow.Author.Tests.{ne-eqb}
 use Rattle.book.proofs.treatments.way_of.Statement.{statement}
 use Rattle.book.proofs.treatments.way_of.Tie as tie
-use Rattle.book.proofs.treatments.way_of.Reads as reads
-use Rattle.book.proofs.treatments.way_of.Lts as lts
 
 returns : tie.Need-returns
 returns c = rw (c .if1 .taken)

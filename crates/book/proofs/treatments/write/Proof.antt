@@ -1,12 +1,9 @@
+-- `write` stores a row and makes four postings, each of which is made (`written`).
+-- Assumes nothing.
 use Rattle.book.proofs.Laws.Treatments.{amount-back, written}
 use borrow.Author.Needs.{needs}
 use Rattle.book.proofs.treatments.write.Statement.{statement}
 use Rattle.book.proofs.treatments.write.Tie as tie
-use Rattle.book.proofs.treatments.write.Reads as reads
-use Rattle.book.proofs.treatments.write.Lts as lts
-use Rattle.book.proofs.treatments.header_after.Reads as header-after-reads
-use Rattle.positions.proofs.posting.post.Reads as post-reads
-use Rattle.tables.proofs.rows.put_collection.Reads as put-collection-reads
 
 put-collection-requires : tie.Need-put-collection-requires
 put-collection-requires c κs = search needs

@@ -1,10 +1,8 @@
+-- `is_in_time` compares with the last day.
+-- Assumes nothing.
 use borrow.Author.Needs.{needs}
 use Rattle.book.proofs.undoing.is_in_time.Statement.{statement}
 use Rattle.book.proofs.undoing.is_in_time.Tie as tie
-use Rattle.book.proofs.undoing.is_in_time.Reads as reads
-use Rattle.book.proofs.undoing.is_in_time.Lts as lts
-use Rattle.book.proofs.undoing.last_day.Reads as last-day-reads
-use Rattle.calendar.proofs.periods.is_after.Reads as is-after-reads
 
 last-day-requires : tie.Need-last-day-requires
 last-day-requires c κs = search needs

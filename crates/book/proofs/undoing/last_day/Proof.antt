@@ -1,11 +1,9 @@
+-- `last_day` is the end of the way's period.
+-- Assumes nothing.
 use Rattle.model.specs.Deadlines.{lastDay}
 use borrow.Author.Needs.{needs}
 use Rattle.book.proofs.undoing.last_day.Statement.{statement}
 use Rattle.book.proofs.undoing.last_day.Tie as tie
-use Rattle.book.proofs.undoing.last_day.Reads as reads
-use Rattle.book.proofs.undoing.last_day.Lts as lts
-use Rattle.book.proofs.undoing.period_of.Reads as period-of-reads
-use Rattle.calendar.proofs.periods.period_end.Reads as period-end-reads
 
 period-of-requires : tie.Need-period-of-requires
 period-of-requires c κs = search needs

@@ -1,10 +1,8 @@
+-- Each way's period is that of `core`.
+-- Assumes nothing.
 use borrow.Author.Needs.{needs}
 use Rattle.book.proofs.undoing.period_of.Statement.{statement}
 use Rattle.book.proofs.undoing.period_of.Tie as tie
-use Rattle.book.proofs.undoing.period_of.Reads as reads
-use Rattle.book.proofs.undoing.period_of.Lts as lts
-use Rattle.book.proofs.undoing.period.Reads as period-reads
-use Rattle.book.proofs.undoing.refund_period.Reads as refund-period-reads
 
 enum-told : tie.Need-enum-told
 enum-told c = search needs

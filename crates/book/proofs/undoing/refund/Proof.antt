@@ -1,13 +1,10 @@
-use mathlib.Core.Path.{_≡_, refl, sym, _∙_, ap}
+-- `refund` gets days and cents, since `Refundable` says that there are any, and posts them.
+-- Assumes nothing.
+use mathlib.Core.Path.{sym, _∙_}
 use Rattle.book.proofs.Laws.Treatments.{refund-no-days, refund-no-cents, refund-posts}
 use borrow.Author.Needs.{needs}
 use Rattle.book.proofs.undoing.refund.Statement.{statement}
 use Rattle.book.proofs.undoing.refund.Tie as tie
-use Rattle.book.proofs.undoing.refund.Reads as reads
-use Rattle.book.proofs.undoing.refund.Lts as lts
-use Rattle.calendar.proofs.periods.days_between.Reads as days-between-reads
-use Rattle.positions.proofs.amounts.refunded.Reads as refunded-reads
-use Rattle.positions.proofs.compensation.compensation.Reads as compensation-reads
 
 days-between-requires : tie.Need-days-between-requires
 days-between-requires c κs = search needs

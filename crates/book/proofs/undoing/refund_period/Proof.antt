@@ -1,10 +1,9 @@
+-- `refund_period` looks at the code.
+-- Assumes nothing.
 use borrow.Author.Tests.{ne-eqb}
 use borrow.Author.Needs.{needs}
 use Rattle.book.proofs.undoing.refund_period.Statement.{statement}
 use Rattle.book.proofs.undoing.refund_period.Tie as tie
-use Rattle.book.proofs.undoing.refund_period.Reads as reads
-use Rattle.book.proofs.undoing.refund_period.Lts as lts
-use Rattle.book.proofs.undoing.period.Reads as period-reads
 
 period-requires : tie.Need-period-requires
 period-requires c κs = search needs

@@ -1,12 +1,10 @@
-use mathlib.Core.Path.{_≡_, refl, sym, _∙_, ap}
+-- `undone` posts the opposite of a settle, or a refund.
+-- Assumes nothing.
+use mathlib.Core.Path.{_∙_}
 use Rattle.positions.proofs.Laws.Answers.{reversedOf-is}
 use borrow.Author.Needs.{needs}
 use Rattle.book.proofs.undoing.undone.Statement.{statement}
 use Rattle.book.proofs.undoing.undone.Tie as tie
-use Rattle.book.proofs.undoing.undone.Reads as reads
-use Rattle.book.proofs.undoing.undone.Lts as lts
-use Rattle.book.proofs.undoing.refund.Reads as refund-reads
-use Rattle.positions.proofs.amounts.reversed.Reads as reversed-reads
 
 enum-told : tie.Need-enum-told
 enum-told c = search needs
