@@ -36,10 +36,10 @@ use Rattle.model.specs.Deadlines.{daysSince}
 use Rattle.model.specs.Effects.{dated, keepCollection, withPostings, treated, undone}
 use Rattle.book.specs.declared.undoing.Way.{Way as CodeWay}
 use Rattle.book.specs.declared.undoing.Way.the-variants as ways
-use Rattle.book.specs.declared.treatments.Treatment.{Treatment as CodeTreatment}
-use Rattle.book.specs.declared.treatments.Treatment.the-variants as treatments
-use Rattle.book.specs.declared.treatments.Verdict.{Verdict}
-use Rattle.book.specs.declared.treatments.Verdict.the-variants.{Refuse, Mark, Post}
+use Rattle.book.specs.declared.verdicts.Treatment.{Treatment as CodeTreatment}
+use Rattle.book.specs.declared.verdicts.Treatment.the-variants as treatments
+use Rattle.book.specs.declared.verdicts.Verdict.{Verdict}
+use Rattle.book.specs.declared.verdicts.Verdict.the-variants.{Refuse, Mark, Post}
 
 -- ---- the model's way and treatment
 

@@ -2,6 +2,7 @@
 pub mod query;
 mod treatments;
 mod undoing;
+mod verdicts;
 
 use model::Answer;
 use tables::Header;

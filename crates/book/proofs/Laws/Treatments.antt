@@ -68,8 +68,8 @@ use Rattle.model.specs.Effects.{treated, undone, effect}
 use Rattle.model.specs.Step.{afterAnswer}
 use Rattle.book.specs.declared.Outcome.{Outcome}
 use Rattle.book.specs.Calls.{Done}
-use Rattle.book.specs.declared.treatments.Verdict.{Verdict}
-use Rattle.book.specs.declared.treatments.Verdict.the-variants.{Refuse, Mark, Post}
+use Rattle.book.specs.declared.verdicts.Verdict.{Verdict}
+use Rattle.book.specs.declared.verdicts.Verdict.the-variants.{Refuse, Mark, Post}
 use Rattle.book.specs.Treatments.{wayIn, treatmentIn, rateOf, postVerdict, goVerdict, rowVerdict, foundVerdict, verdictOf, answerIn, headerAfter, afterVerdict, Refundable, Payable, Treatable, Asked, RowReady, Judgeable, Held, Ready, Postable}
 
 -- ---- the postings of a refund

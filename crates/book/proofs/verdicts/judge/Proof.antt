@@ -6,8 +6,8 @@ use Rattle.common.proofs.Tests.{not-true, not-false}
 use Rattle.book.specs.Treatments.{treatmentOf}
 use Rattle.book.proofs.Laws.Treatments.{verdict-early, verdict-day, verdict-found, found-ready}
 use borrow.Author.Needs.{needs}
-use Rattle.book.proofs.treatments.judge.Statement.{statement}
-use Rattle.book.proofs.treatments.judge.Tie as tie
+use Rattle.book.proofs.verdicts.judge.Statement.{statement}
+use Rattle.book.proofs.verdicts.judge.Tie as tie
 
 returns : tie.Need-returns
 returns c = sym (verdict-early (treatmentOf (c .before .before .before .args .t)) (c .before .before .before .args .header .latest) (c .before .before .before .args .date) (c .before .before .before .args .collections .now) (c .before .before .before .args .header .collections) (c .before .before .before .args .number) (c .if1 .taken))

@@ -6,8 +6,8 @@ use Rattle.book.specs.Treatments.{wayOf, Payable}
 use Rattle.book.specs.Treatments.{treatmentOf}
 use Rattle.book.proofs.Laws.Treatments.{go-settle, go-undo}
 use borrow.Author.Needs.{needs}
-use Rattle.book.proofs.treatments.go_verdict.Statement.{statement}
-use Rattle.book.proofs.treatments.go_verdict.Tie as tie
+use Rattle.book.proofs.verdicts.go_verdict.Statement.{statement}
+use Rattle.book.proofs.verdicts.go_verdict.Tie as tie
 
 treated-requires : tie.Need-treated-requires
 treated-requires c κs = search needs

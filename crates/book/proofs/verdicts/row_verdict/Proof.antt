@@ -5,8 +5,8 @@ use Rattle.common.proofs.Tests.{not-true, not-false}
 use Rattle.book.specs.Treatments.{treatmentOf}
 use Rattle.book.proofs.Laws.Treatments.{row-state, row-due, row-time, row-go, row-payable}
 use borrow.Author.Needs.{needs}
-use Rattle.book.proofs.treatments.row_verdict.Statement.{statement}
-use Rattle.book.proofs.treatments.row_verdict.Tie as tie
+use Rattle.book.proofs.verdicts.row_verdict.Statement.{statement}
+use Rattle.book.proofs.verdicts.row_verdict.Tie as tie
 
 state-fits-requires : tie.Need-state-fits-requires
 state-fits-requires c κs = search needs
