@@ -1,3 +1,4 @@
 -- What the contracts of the book cite besides the model.
 pub mod Calls  -- an event done to a ledger
-pub mod Treatments  -- events 6 to 10: verdicts, and what fitness gives
+pub mod Treatments  -- events 6 to 10: what is asked for, verdicts
+pub mod Ready  -- events 6 to 10: what fitness gives

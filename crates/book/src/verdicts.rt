@@ -3,7 +3,8 @@
 ghost use mathlib.Core.Path.{_≡_};
 ghost use Rattle.model.specs.Checks.{isPresented, isSettled, settledOn, dayTreated, stateFits, dueTreated, timeTreated};
 ghost use Rattle.model.specs.Effects.{undoingOf as undoingIn, stateAfter, treated as treatedBy};
-ghost use Rattle.book.specs.Treatments.{wayOf, treatmentOf, postVerdict, goVerdict, rowVerdict, verdictOf, Payable, RowReady, Judgeable};
+ghost use Rattle.book.specs.Treatments.{wayOf, treatmentOf, postVerdict, goVerdict, rowVerdict, verdictOf};
+ghost use Rattle.book.specs.Ready.{Payable, RowReady, Judgeable};
 use crate::undoing::Way;
 use crate::undoing::is_in_time;
 use crate::undoing::undone;

@@ -5,7 +5,8 @@ use Prim.Native.Nat.{ℕ}
 use mathlib.Core.List.{List}
 use mathlib.Core.Path.{refl, sym, _∙_}
 use Rattle.book.specs.Treatments.{treatmentOf}
-use Rattle.book.proofs.Laws.Treatments.{verdict-postable, treat-done, marked}
+use Rattle.book.proofs.Laws.Treatments.{treat-done, marked}
+use Rattle.book.proofs.Laws.Ready.{verdict-postable}
 use borrow.Author.Needs.{needs}
 use Rattle.book.proofs.treatments.treat.Statement.{statement}
 use Rattle.book.proofs.treatments.treat.Tie as tie

@@ -1,7 +1,7 @@
 -- `refund` gets days and cents, since `Refundable` says that there are any, and posts them.
 -- Assumes nothing.
 use mathlib.Core.Path.{sym, _∙_}
-use Rattle.book.proofs.Laws.Treatments.{refund-no-days, refund-no-cents, refund-posts}
+use Rattle.book.proofs.Laws.Ready.{refund-no-days, refund-no-cents, refund-posts}
 use borrow.Author.Needs.{needs}
 use Rattle.book.proofs.undoing.refund.Statement.{statement}
 use Rattle.book.proofs.undoing.refund.Tie as tie

@@ -2,7 +2,8 @@
 -- Assumes nothing.
 use Rattle.model.specs.Actions.Treatment.{Settle}
 use mathlib.Core.Path.{_∙_, ap}
-use Rattle.book.specs.Treatments.{wayOf, Payable}
+use Rattle.book.specs.Treatments.{wayOf}
+use Rattle.book.specs.Ready.{Payable}
 use Rattle.book.specs.Treatments.{treatmentOf}
 use Rattle.book.proofs.Laws.Treatments.{go-settle, go-undo}
 use borrow.Author.Needs.{needs}

@@ -4,7 +4,8 @@ use Rattle.tables.specs.declared.Found.the-variants.{Nothing}
 use mathlib.Core.Path.{sym, _∙_}
 use Rattle.common.proofs.Tests.{not-true, not-false}
 use Rattle.book.specs.Treatments.{treatmentOf}
-use Rattle.book.proofs.Laws.Treatments.{verdict-early, verdict-day, verdict-found, found-ready}
+use Rattle.book.proofs.Laws.Treatments.{verdict-early, verdict-day, verdict-found}
+use Rattle.book.proofs.Laws.Ready.{found-ready}
 use borrow.Author.Needs.{needs}
 use Rattle.book.proofs.verdicts.judge.Statement.{statement}
 use Rattle.book.proofs.verdicts.judge.Tie as tie

@@ -3,7 +3,8 @@
 use mathlib.Core.Path.{sym, _∙_}
 use Rattle.common.proofs.Tests.{not-true, not-false}
 use Rattle.book.specs.Treatments.{treatmentOf}
-use Rattle.book.proofs.Laws.Treatments.{row-state, row-due, row-time, row-go, row-payable}
+use Rattle.book.proofs.Laws.Treatments.{row-state, row-due, row-time, row-go}
+use Rattle.book.proofs.Laws.Ready.{row-payable}
 use borrow.Author.Needs.{needs}
 use Rattle.book.proofs.verdicts.row_verdict.Statement.{statement}
 use Rattle.book.proofs.verdicts.row_verdict.Tie as tie
