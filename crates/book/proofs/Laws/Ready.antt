@@ -61,7 +61,7 @@ use Rattle.book.specs.Ready.{Refundable, Payable, Treatable, Asked, RowR
 
 -- ---- Refundable: the postings of a refund
 
-module _ (amount rate settled date : ℕ) (r : Refundable amount rate settled date) where
+module _ {amount rate settled date : ℕ} (r : Refundable amount rate settled date) where
   days-are : daysBetween settled date ≡ Days (record { 0 = daysSince settled date })
   days-are =
       daysBetween-days settled date (dayNumber settled) (dayNumber date)
@@ -75,23 +75,23 @@ module _ (amount rate settled date : ℕ) (r : Refundable amount rate settled da
   pub refund-no-days : daysBetween settled date ≡ NoDays → ⊥
   refund-no-days e = let d = days-are in let z : _≡_ {A = ℕ} 0 1 = cc in omega arith
 
-  pub refund-days : (days : CalendarDays) → daysBetween settled date ≡ Days days → days .0 ≡ daysSince settled date
-  refund-days days e =
+  pub refund-days : {days : CalendarDays} → daysBetween settled date ≡ Days days → days .0 ≡ daysSince settled date
+  refund-days {days} e =
       let d = days-are in
       let p : days ≡ record { 0 = daysSince settled date } = cc in
       ap (λ (d : CalendarDays). d .0) p
 
-  pub refund-no-cents : (days : CalendarDays) → daysBetween settled date ≡ Days days → compensationOf amount rate (days .0) ≡ NoCents → ⊥
-  refund-no-cents days e f =
-      let g : compensationOf amount rate (daysSince settled date) ≡ NoCents = ap (compensationOf amount rate) (sym (refund-days days e)) ∙ f in
+  pub refund-no-cents : {days : CalendarDays} → daysBetween settled date ≡ Days days → compensationOf amount rate (days .0) ≡ NoCents → ⊥
+  refund-no-cents e f =
+      let g : compensationOf amount rate (daysSince settled date) ≡ NoCents = ap (compensationOf amount rate) (sym (refund-days e)) ∙ f in
       let d = cents-are in
       let z : _≡_ {A = ℕ} 0 1 = cc in omega arith
 
   pub refund-posts :
-      (days : CalendarDays) (cents : ℕ) → daysBetween settled date ≡ Days days → compensationOf amount rate (days .0) ≡ Cents cents
+      {days : CalendarDays} {cents : ℕ} → daysBetween settled date ≡ Days days → compensationOf amount rate (days .0) ≡ Cents cents
       → refundedOf amount cents ≡ Amounts (refunded amount (compensation amount rate (daysSince settled date)))
-  refund-posts days cents e f =
-      let g : compensationOf amount rate (daysSince settled date) ≡ Cents cents = ap (compensationOf amount rate) (sym (refund-days days e)) ∙ f in
+  refund-posts {days} {cents} e f =
+      let g : compensationOf amount rate (daysSince settled date) ≡ Cents cents = ap (compensationOf amount rate) (sym (refund-days e)) ∙ f in
       let d = cents-are in
       let p : cents ≡ compensation amount rate (daysSince settled date) = cc in
       rw p
@@ -138,9 +138,9 @@ refundable way date amount (Settled day) low high rated r d e g =
 refundable way date amount (Undone day by) low high rated r d e g = absurd (never e refl)
 
 pub row-payable :
-    (t : Treatment) (date : ℕ) (k : Collection) → RowReady t date k → stateFits t (k .state) ≡ true → timeTreated t (k .state) date ≡ true
+    {t : Treatment} {date : ℕ} {k : Collection} → RowReady t date k → stateFits t (k .state) ≡ true → timeTreated t (k .state) date ≡ true
     → Payable t date k
-row-payable t date k r e g = record {
+row-payable {t} {date} {k} r e g = record {
   amount = r .row-fit .amount .1;
   undoing = λ way q.
       refundable way date (k .amount) (k .state)
@@ -157,9 +157,9 @@ row-payable t date k r e g = record {
 
 -- the row that is found, at a date that is not before the latest one
 pub found-ready :
-    (t : Treatment) (latest date : ℕ) (collections : List ℕ) (used number row : ℕ) → Judgeable t latest date collections used
+    {t : Treatment} {latest date : ℕ} {collections : List ℕ} {used row : ℕ} (number : ℕ) → Judgeable t latest date collections used
     → latest ≤ date → lookup collections used number ≡ At row → RowReady t date (collectionAt collections row)
-found-ready t latest date collections used number row j h e =
+found-ready {t} {latest} {date} {collections} {used} {row} number j h e =
     let f = j .rows-fit row (omega (arith, lookup-at collections used number row e .existing-row, existing-used collections used)) in
     record {
       asked = j .asked;
@@ -252,8 +252,8 @@ module _ (t : Treatment) (latest date : ℕ) (total : ℤ) (cs : List ℕ) (used
   found-posts (At row) q h e =
       let k = collectionAt cs row in
       let g = row-posts t date row k row' k' p (stateFits t (k .state)) (dueTreated t (k .due) date) (timeTreated t (k .state) date) e in
-      let w = found-ready t latest date cs used number row (r .judgeable) h q in
-      go-postable t date row k total cp dp bp (w .row-fit) (row-payable t date k w (g .0) (g .1)) (r .creditors) (r .debtors) (r .banks) (r .total-bounded)
+      let w = found-ready number (r .judgeable) h q in
+      go-postable t date row k total cp dp bp (w .row-fit) (row-payable w (g .0) (g .1)) (r .creditors) (r .debtors) (r .banks) (r .total-bounded)
       row' k' p (g .2)
 
   tests-post :
@@ -264,9 +264,12 @@ module _ (t : Treatment) (latest date : ℕ) (total : ℤ) (cs : List ℕ) (used
   tests-post true false q e = let z : _≡_ {A = ℕ} 0 1 = cc in absurd (omega arith)
   tests-post true true q e = found-posts (lookup cs used number) refl (leb-true latest date q) e
 
-  pub verdict-postable : verdictOf t latest date cs used number ≡ Post row' k' p → Postable k' p total cp dp bp
-  unfolding verdictOf
-  verdict-postable e = tests-post (leb latest date) (dayTreated t date) refl e
+pub verdict-postable :
+    {t : Treatment} {latest date : ℕ} {total : ℤ} {cs : List ℕ} {used : ℕ} {cp dp bp : List ℤ} {row : ℕ} {k : Collection} {p : Postings} (number : ℕ)
+    → Ready t latest date total cs used cp dp bp → verdictOf t latest date cs used number ≡ Post row k p → Postable k p total cp dp bp
+unfolding verdictOf
+verdict-postable {t} {latest} {date} {total} {cs} {used} {cp} {dp} {bp} {row} {k} {p} number r e =
+    tests-post t latest date total cs used number cp dp bp r row k p (leb latest date) (dayTreated t date) refl e
 
 -- ---- Ready: a fit ledger is ready
 

@@ -116,10 +116,10 @@ module _ (t : Treatment) (latest date : ℕ) (collections : List ℕ) (used numb
   verdict-day h e = rw (le-leb latest date h, e)
 
   pub verdict-found :
-      latest ≤ date → dayTreated t date ≡ true → (f : Found) → lookup collections used number ≡ f
+      latest ≤ date → dayTreated t date ≡ true → {f : Found} → lookup collections used number ≡ f
       → verdictOf t latest date collections used number ≡ foundVerdict t date collections f
   unfolding verdictOf
-  verdict-found h e f q = rw (le-leb latest date h, e, q)
+  verdict-found h e q = rw (le-leb latest date h, e, q)
 
 -- ---- a verdict is the model's answer and effect
 
@@ -181,17 +181,19 @@ module _ (l : Ledger) (date number : ℕ) (t : Treatment) where
             (row-after l date number t k row (stateFits t (k .state)) (dueTreated t (k .due) date) (timeTreated t (k .state) date)),
       )
 
-  -- the answer and the ledger after a verdict, as the model has them
-  pub treat-done :
-      (v : Verdict) → verdictOf t (l .latest) date (l .collections) (l .collectionsUsed) number ≡ v
-      → (r : Outcome) → r .answer ≡ answerIn v → (l' : Ledger) → l' ≡ afterVerdict v date l
-      → Done l date (Treat number t) r l'
-  treat-done v e r p l' q =
-      let m = by-found (lookup (l .collections) (l .collectionsUsed) number) refl (leb (l .latest) date) (dayTreated t date) refl refl in
-      record {
-        answer = p ∙ ap answerIn (sym e) ∙ sym (m .0);
-        after = q ∙ ap (λ (w : Verdict). afterVerdict w date l) (sym e) ∙ sym (m .1);
-      }
+-- the answer and the ledger after a verdict, as the model has them
+pub treat-done :
+    {l l' : Ledger} {date number : ℕ} {t : Treatment} {v : Verdict} {r : Outcome}
+    → verdictOf t (l .latest) date (l .collections) (l .collectionsUsed) number ≡ v
+    → r .answer ≡ answerIn v → l' ≡ afterVerdict v date l
+    → Done l date (Treat number t) r l'
+treat-done {l} {l'} {date} {number} {t} e p q =
+    let f = lookup (l .collections) (l .collectionsUsed) number in
+    let m = by-found l date number t f refl (leb (l .latest) date) (dayTreated t date) refl refl in
+    record {
+      answer = p ∙ ap answerIn (sym e) ∙ sym (m .0);
+      after = q ∙ ap (λ (w : Verdict). afterVerdict w date l) (sym e) ∙ sym (m .1);
+    }
 
 -- ---- what is written
 

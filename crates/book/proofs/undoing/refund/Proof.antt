@@ -16,7 +16,7 @@ enum-told : tie.Need-enum-told
 enum-told c = search needs
 
 returns : tie.Need-returns
-returns c = absurd (refund-no-days (c .before .before .before .args .amount) (c .before .before .before .args .rate) (c .before .before .before .args .settled) (c .before .before .before .args .date) (c .before .before .before .pre) (sym (c .before .before .days-between .ensures) ∙ c .enum-told .given .1))
+returns c = absurd (refund-no-days (c .before .before .before .pre) (sym (c .before .before .days-between .ensures) ∙ c .enum-told .given .1))
 
 compensation-requires : tie.Need-compensation-requires
 compensation-requires c κs = search needs
@@ -28,13 +28,13 @@ enum-told-2 : tie.Need-enum-told-2
 enum-told-2 c = search needs
 
 returns-2 : tie.Need-returns-2
-returns-2 c = absurd (refund-no-cents (c .before .before .before .before .before .before .before .args .amount) (c .before .before .before .before .before .before .before .args .rate) (c .before .before .before .before .before .before .before .args .settled) (c .before .before .before .before .before .before .before .args .date) (c .before .before .before .before .before .before .before .pre) _ (sym (c .before .before .before .before .before .before .days-between .ensures) ∙ c .before .before .before .before .days .given .1) (sym (c .before .before .compensation .ensures) ∙ c .enum-told2 .given .1))
+returns-2 c = absurd (refund-no-cents (c .before .before .before .before .before .before .before .pre) (sym (c .before .before .before .before .before .before .days-between .ensures) ∙ c .before .before .before .before .days .given .1) (sym (c .before .before .compensation .ensures) ∙ c .enum-told2 .given .1))
 
 refunded-requires : tie.Need-refunded-requires
 refunded-requires c κs = search needs
 
 returns-3 : tie.Need-returns-3
-returns-3 c = c .refunded .ensures ∙ refund-posts (c .before .before .before .before .before .before .before .before .before .args .amount) (c .before .before .before .before .before .before .before .before .before .args .rate) (c .before .before .before .before .before .before .before .before .before .args .settled) (c .before .before .before .before .before .before .before .before .before .args .date) (c .before .before .before .before .before .before .before .before .before .pre) _ _ (sym (c .before .before .before .before .before .before .before .before .days-between .ensures) ∙ c .before .before .before .before .before .before .days .given .1) (sym (c .before .before .before .before .compensation .ensures) ∙ c .before .before .cents .given .1)
+returns-3 c = c .refunded .ensures ∙ refund-posts (c .before .before .before .before .before .before .before .before .before .pre) (sym (c .before .before .before .before .before .before .before .before .days-between .ensures) ∙ c .before .before .before .before .before .before .days .given .1) (sym (c .before .before .before .before .compensation .ensures) ∙ c .before .before .cents .given .1)
 
 pub refund-spec : {M : Type 1} → statement M
 refund-spec =

@@ -11,13 +11,13 @@ use Rattle.book.proofs.verdicts.judge.Statement.{statement}
 use Rattle.book.proofs.verdicts.judge.Tie as tie
 
 returns : tie.Need-returns
-returns c = sym (verdict-early (treatmentOf (c .before .before .before .args .t)) (c .before .before .before .args .header .latest) (c .before .before .before .args .date) (c .before .before .before .args .collections .now) (c .before .before .before .args .header .collections) (c .before .before .before .args .number) (c .if1 .taken))
+returns c = sym (verdict-early _ _ _ _ _ _ (c .if1 .taken))
 
 day-fits-requires : tie.Need-day-fits-requires
 day-fits-requires c κs = search needs
 
 returns-2 : tie.Need-returns-2
-returns-2 c = sym (verdict-day (treatmentOf (c .before .before .before .before .before .args .t)) (c .before .before .before .before .before .args .header .latest) (c .before .before .before .before .before .args .date) (c .before .before .before .before .before .args .collections .now) (c .before .before .before .before .before .args .header .collections) (c .before .before .before .before .before .args .number) (c .before .before .if1 .left) (sym (c .before .day-fits .ensures) ∙ not-true (c .if2 .taken)))
+returns-2 c = sym (verdict-day _ _ _ _ _ _ (c .before .before .if1 .left) (sym (c .before .day-fits .ensures) ∙ not-true (c .if2 .taken)))
 
 find-requires : tie.Need-find-requires
 find-requires c κs = search needs
@@ -29,16 +29,16 @@ collection-at-requires : tie.Need-collection-at-requires
 collection-at-requires c κs = search needs
 
 row-verdict-requires : tie.Need-row-verdict-requires
-row-verdict-requires c κs = rw (c .collection-at .ensures) (found-ready (treatmentOf (c .before .before .before .before .before .before .before .before .before .before .args .t)) (c .before .before .before .before .before .before .before .before .before .before .args .header .latest) (c .before .before .before .before .before .before .before .before .before .before .args .date) (c .before .before .before .before .before .before .before .before .before .before .args .collections .now) (c .before .before .before .before .before .before .before .before .before .before .args .header .collections) (c .before .before .before .before .before .before .before .before .before .before .args .number) _ (c .before .before .before .before .before .before .before .before .before .before .pre) (c .before .before .before .before .before .before .before .if1 .left) (sym (c .before .before .before .before .find .ensures) ∙ c .before .before .row .given .1))
+row-verdict-requires c κs = rw (c .collection-at .ensures) (found-ready _ (c .before .before .before .before .before .before .before .before .before .before .pre) (c .before .before .before .before .before .before .before .if1 .left) (sym (c .before .before .before .before .find .ensures) ∙ c .before .before .row .given .1))
 
 enum-told : tie.Need-enum-told
 enum-told c = search needs
 
 returns-3 : tie.Need-returns-3
-returns-3 c = c .row-verdict .ensures ∙ rw (c .before .collection-at .ensures) (sym (verdict-found (treatmentOf (c .before .before .before .before .before .before .before .before .before .before .before .args .t)) (c .before .before .before .before .before .before .before .before .before .before .before .args .header .latest) (c .before .before .before .before .before .before .before .before .before .before .before .args .date) (c .before .before .before .before .before .before .before .before .before .before .before .args .collections .now) (c .before .before .before .before .before .before .before .before .before .before .before .args .header .collections) (c .before .before .before .before .before .before .before .before .before .before .before .args .number) (c .before .before .before .before .before .before .before .before .if1 .left) (sym (c .before .before .before .before .before .before .before .day-fits .ensures) ∙ not-false (c .before .before .before .before .before .before .if2 .left)) _ (sym (c .before .before .before .before .before .find .ensures) ∙ c .before .before .before .row .given .1)))
+returns-3 c = c .row-verdict .ensures ∙ rw (c .before .collection-at .ensures) (sym (verdict-found _ _ _ _ _ _ (c .before .before .before .before .before .before .before .before .if1 .left) (sym (c .before .before .before .before .before .before .before .day-fits .ensures) ∙ not-false (c .before .before .before .before .before .before .if2 .left)) (sym (c .before .before .before .before .before .find .ensures) ∙ c .before .before .before .row .given .1)))
 
 returns-4 : tie.Need-returns-4
-returns-4 c = sym (verdict-found (treatmentOf (c .before .before .before .before .before .before .before .before .args .t)) (c .before .before .before .before .before .before .before .before .args .header .latest) (c .before .before .before .before .before .before .before .before .args .date) (c .before .before .before .before .before .before .before .before .args .collections .now) (c .before .before .before .before .before .before .before .before .args .header .collections) (c .before .before .before .before .before .before .before .before .args .number) (c .before .before .before .before .before .if1 .left) (sym (c .before .before .before .before .day-fits .ensures) ∙ not-false (c .before .before .before .if2 .left)) Nothing (sym (c .before .before .find .ensures) ∙ c .enum-told .given .1))
+returns-4 c = sym (verdict-found _ _ _ _ _ _ (c .before .before .before .before .before .if1 .left) (sym (c .before .before .before .before .day-fits .ensures) ∙ not-false (c .before .before .before .if2 .left)) (sym (c .before .before .find .ensures) ∙ c .enum-told .given .1))
 
 pub judge-spec : {M : Type 1} → statement M
 judge-spec =
