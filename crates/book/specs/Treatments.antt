@@ -1,11 +1,12 @@
 -- Events 6 to 10 as the code does them: the verdict on a collection holds all that is to be written.
 -- That it is the model's answer and effect: `treat-done` of proofs/Laws/Treatments. Assumes nothing.
-use mathlib.Core.Bool.{cond}
+use mathlib.Core.Bool.{Bool, cond}
 use mathlib.Core.List.{List, [], _∷_}
 use Prim.Native.Nat.{ℕ}
 use lib.Dec.{eqb, leb}
 use lib.IntN.{ℤ, _+ℤ_}
 use Rattle.common.specs.Checks.{check, judged}
+use Rattle.refusals.specs.declared.Refusal.{Refusal}
 use Rattle.refusals.specs.declared.Refusal.the-variants.{UnfitMemory, BeforeLatest, NotBusinessDay, DoesNotExist, WrongState, BeforeDue, AfterLastDay}
 use Rattle.events.specs.declared.Event.{Event}
 use Rattle.positions.specs.Postings.{settlement}
@@ -71,14 +72,22 @@ goVerdict Reject date row k = Mark row (treated Reject date k)
 goVerdict (Undo way) date row k =
     Post row (treated (Undo way) date k) (undone way (k .amount) (settledOn (k .state)) date)
 
--- refusals 15 to 17
+-- refusals 15 to 17, by whether the state, the due and the time fit
+abbrev pub rowJudged : {A : Type 0} → (Refusal → A) → Bool → Bool → Bool → A → A
+rowJudged refuse state due time a =
+    judged
+    (check state (refuse WrongState)
+    ∷ check due (refuse BeforeDue)
+    ∷ check time (refuse AfterLastDay)
+    ∷ [])
+    a
+
 unfoldable pub rowVerdict : Treatment → ℕ → ℕ → Collection → Verdict
 rowVerdict t date row k =
-    judged
-    (check (stateFits t (k .state)) (Refuse WrongState)
-    ∷ check (dueTreated t (k .due) date) (Refuse BeforeDue)
-    ∷ check (timeTreated t (k .state) date) (Refuse AfterLastDay)
-    ∷ [])
+    rowJudged Refuse
+    (stateFits t (k .state))
+    (dueTreated t (k .due) date)
+    (timeTreated t (k .state) date)
     (goVerdict t date row k)
 
 -- refusal 9

@@ -11,7 +11,7 @@ use lib.IntN.{ℤ, pos, natAbs}
 use lib.ListN.{length, getD, List·getD-eq-default}
 use Rattle.common.specs.Checks.{check, judged}
 use Rattle.common.proofs.Tests.{never, not-true}
-use Rattle.refusals.specs.declared.Refusal.the-variants.{BeforeLatest, NotBusinessDay, WrongState, BeforeDue, AfterLastDay}
+use Rattle.refusals.specs.declared.Refusal.the-variants.{BeforeLatest, NotBusinessDay}
 use Rattle.calendar.specs.Gregorian.{inRange, isDate}
 use Rattle.calendar.specs.DayNumber.{dayNumber}
 use Rattle.calendar.specs.Periods.{daysBetween, isAfter}
@@ -31,6 +31,8 @@ use Rattle.positions.specs.Compensation.{compensation, compensationOf, rateLimi
 use Rattle.positions.specs.Answers.{refundedOf}
 use Rattle.positions.specs.declared.Postings.{Postings}
 use Rattle.positions.specs.declared.PostingsAnswer.the-variants.{Amounts}
+use Rattle.positions.specs.Limits.{refundDays}
+use Rattle.positions.specs.declared.CompensationAnswer.{CompensationAnswer}
 use Rattle.positions.specs.declared.CompensationAnswer.the-variants.{Cents, OutsideLimits as NoCents}
 use Rattle.positions.proofs.Laws.Compensation.{compensationOf-is}
 use Rattle.positions.proofs.Laws.Limits.{compensation-bound}
@@ -56,7 +58,7 @@ use Rattle.model.specs.Checks.{isSettled, settledOn, dayTreated, stateFits, due
 use Rattle.model.specs.Deadlines.{core, periodOf, lastDay, inTime, daysSince}
 use Rattle.model.specs.Effects.{treated, undone}
 use Rattle.book.specs.declared.verdicts.Verdict.the-variants.{Refuse, Post}
-use Rattle.book.specs.Treatments.{wayIn, treatmentIn, rateOf, goVerdict, rowVerdict, foundVerdict, verdictOf}
+use Rattle.book.specs.Treatments.{rowJudged, wayIn, treatmentIn, rateOf, goVerdict, rowVerdict, foundVerdict, verdictOf}
 use Rattle.book.specs.Ready.{Refundable, Payable, Treatable, Asked, RowReady, Judgeable, Held, Ready, Postable}
 
 -- ---- Refundable: the postings of a refund
@@ -81,17 +83,25 @@ module _ {amount rate settled date : ℕ} (r : Refundable amount rate settled da
       let p : days ≡ record { 0 = daysSince settled date } = cc in
       ap (λ (d : CalendarDays). d .0) p
 
-  pub refund-no-cents : {days : CalendarDays} → daysBetween settled date ≡ Days days → compensationOf amount rate (days .0) ≡ NoCents → ⊥
+  -- the compensation for the days that were found
+  cents-for :
+      {days : CalendarDays} {answer : CompensationAnswer} → daysBetween settled date ≡ Days days
+      → compensationOf amount rate (days .0) ≡ answer → compensationOf amount rate (daysSince settled date) ≡ answer
+  cents-for e f = ap (compensationOf amount rate) (sym (refund-days e)) ∙ f
+
+  pub refund-no-cents :
+      {days : CalendarDays} → daysBetween settled date ≡ Days days → compensationOf amount rate (days .0) ≡ NoCents → ⊥
   refund-no-cents e f =
-      let g : compensationOf amount rate (daysSince settled date) ≡ NoCents = ap (compensationOf amount rate) (sym (refund-days e)) ∙ f in
+      let g = cents-for e f in
       let d = cents-are in
       let z : _≡_ {A = ℕ} 0 1 = cc in omega arith
 
   pub refund-posts :
-      {days : CalendarDays} {cents : ℕ} → daysBetween settled date ≡ Days days → compensationOf amount rate (days .0) ≡ Cents cents
+      {days : CalendarDays} {cents : ℕ} → daysBetween settled date ≡ Days days
+      → compensationOf amount rate (days .0) ≡ Cents cents
       → refundedOf amount cents ≡ Amounts (refunded amount (compensation amount rate (daysSince settled date)))
   refund-posts {days} {cents} e f =
-      let g : compensationOf amount rate (daysSince settled date) ≡ Cents cents = ap (compensationOf amount rate) (sym (refund-days e)) ∙ f in
+      let g = cents-for e f in
       let d = cents-are in
       let p : cents ≡ compensation amount rate (daysSince settled date) = cc in
       rw p
@@ -100,18 +110,20 @@ module _ {amount rate settled date : ℕ} (r : Refundable amount rate settled da
 
 -- ---- Payable: an undoing in time is within its limits
 
-longest-in-time : (way : Way) → longest (periodOf core way) ≤ 453
+longest-in-time : (way : Way) → longest (periodOf core way) ≤ refundDays
 unfolding longest
 longest-in-time ByReturn = omega arith
 longest-in-time (ByRefund rate code) = by-code (eqb code 0) refl
   where
-    by-code : (b : Bool) → eqb code 0 ≡ b → longest (periodOf core (ByRefund rate code)) ≤ 453
+    by-code : (b : Bool) → eqb code 0 ≡ b → longest (periodOf core (ByRefund rate code)) ≤ refundDays
     by-code true e = rw e (omega arith)
     by-code false e = rw e (omega arith)
 longest-in-time ByReversal = omega arith
 
--- an undoing in time comes at most 453 days after the settled day
-pub in-time-days : (way : Way) (day date : ℕ) → inRange day ≡ true → isDate date ≡ true → inTime way day date ≡ true → daysSince day date ≤ 453
+-- an undoing in time comes at most so many days after the settled day
+pub in-time-days :
+    (way : Way) (day date : ℕ) → inRange day ≡ true → isDate date ≡ true → inTime way day date ≡ true
+    → daysSince day date ≤ refundDays
 unfolding lastDay
 in-time-days way day date r h e =
     let a = range-period-end (periodOf core way) day r (omega (arith, longest-in-time way)) in
@@ -120,7 +132,8 @@ in-time-days way day date r h e =
     omega (arith, longest-in-time way, a .near, dayNumber-mono-le date (a .date) h (a .is-date) l)
 
 refundable :
-    (way : Way) (date amount : ℕ) (s : State) → 1 ≤ amount → amount ≤ amountLimit → rateOf way ≤ rateLimit → inRange date ≡ true
+    (way : Way) (date amount : ℕ) (s : State) → 1 ≤ amount → amount ≤ amountLimit → rateOf way ≤ rateLimit
+    → inRange date ≡ true
     → ((day : ℕ) → s ≡ Settled day → (inRange day ≡ true) × (day ≤ date))
     → isSettled s ≡ true → inTime way (settledOn s) date ≡ true
     → Refundable amount (rateOf way) (settledOn s) date
@@ -138,7 +151,8 @@ refundable way date amount (Settled day) low high rated r d e g =
 refundable way date amount (Undone day by) low high rated r d e g = absurd (never e refl)
 
 pub row-payable :
-    {t : Treatment} {date : ℕ} {k : Collection} → RowReady t date k → stateFits t (k .state) ≡ true → timeTreated t (k .state) date ≡ true
+    {t : Treatment} {date : ℕ} {k : Collection} → RowReady t date k → stateFits t (k .state) ≡ true
+    → timeTreated t (k .state) date ≡ true
     → Payable t date k
 row-payable {t} {date} {k} r e g = record {
   amount = r .row-fit .amount .1;
@@ -157,10 +171,11 @@ row-payable {t} {date} {k} r e g = record {
 
 -- the row that is found, at a date that is not before the latest one
 pub found-ready :
-    {t : Treatment} {latest date : ℕ} {collections : List ℕ} {used row : ℕ} (number : ℕ) → Judgeable t latest date collections used
-    → latest ≤ date → lookup collections used number ≡ At row → RowReady t date (collectionAt collections row)
+    {t : Treatment} {latest date : ℕ} {collections : List ℕ} {used row : ℕ} (number : ℕ)
+    → Judgeable t latest date collections used → latest ≤ date → lookup collections used number ≡ At row → RowReady t date (collectionAt collections row)
 found-ready {t} {latest} {date} {collections} {used} {row} number j h e =
-    let f = j .rows-fit row (omega (arith, lookup-at collections used number row e .existing-row, existing-used collections used)) in
+    let low = lookup-at collections used number row e in
+    let f = j .rows-fit row (omega (arith, low .existing-row, existing-used collections used)) in
     record {
       asked = j .asked;
       row-fit = record {
@@ -187,28 +202,33 @@ atMost-mono m n p h a = record {
 undone-size :
     (way : Way) (amount settled date : ℕ) → Refundable amount (rateOf way) settled date
     → AtMost positionLimit (undone way amount settled date)
-undone-size ByReturn amount settled date r = atMost-mono amount positionLimit (reversed amount) (omega (arith, r .limits .high)) (reversed-size amount)
+undone-size ByReturn amount settled date r =
+    atMost-mono amount positionLimit (reversed amount) (omega (arith, r .limits .high)) (reversed-size amount)
 undone-size (ByRefund rate code) amount settled date r =
     let k = compensation amount rate (daysSince settled date) in
     let h = compensation-bound amount rate (daysSince settled date) (r .limits .high) (r .limits .rated) (r .limits .dated) in
     atMost-mono (amount + k) positionLimit (refunded amount k) (omega (arith, h, r .limits .high)) (refunded-size amount k)
-undone-size ByReversal amount settled date r = atMost-mono amount positionLimit (reversed amount) (omega (arith, r .limits .high)) (reversed-size amount)
+undone-size ByReversal amount settled date r =
+    atMost-mono amount positionLimit (reversed amount) (omega (arith, r .limits .high)) (reversed-size amount)
 
 entry-held : (count k : ℕ) (positions : List ℤ) → Held count positions → (1 ≤ k) × (k ≤ count) → Entry positions k
 entry-held count k positions h n = record { low = n .0; high = omega (arith, h .size, n .1) }
 
-module _ (t : Treatment) (date : ℕ) (k : Collection) (total : ℤ) (cp dp bp : List ℤ) (f : Treatable date k) (creditors : Held creditorCount cp) (debtors : Held debtorCount dp) (banks : Held bankCount bp) (total-bounded : natAbs total ≤ positionLimit) where
+-- the tables that are posted to
+module _
+    {t : Treatment} {latest date : ℕ} {total : ℤ} {cs : List ℕ} {used : ℕ} {cp dp bp : List ℤ}
+    (r : Ready t latest date total cs used cp dp bp) (k : Collection) (f : Treatable date k) where
   postable : (p : Postings) → AtMost positionLimit p → Postable (treated t date k) p total cp dp bp
   unfolding treated
   postable p a = record {
-    creditor = entry-held creditorCount (k .creditor) cp creditors (f .creditor);
-    debtor = entry-held debtorCount (k .debtor) dp debtors (f .debtor);
-    cbank = entry-held bankCount (k .cbank) bp banks (f .cbank);
-    dbank = entry-held bankCount (k .dbank) bp banks (f .dbank);
-    creditors = creditors .bounded;
-    debtors = debtors .bounded;
-    banks = banks .bounded;
-    total-bounded = total-bounded;
+    creditor = entry-held creditorCount (k .creditor) cp (r .creditors) (f .creditor);
+    debtor = entry-held debtorCount (k .debtor) dp (r .debtors) (f .debtor);
+    cbank = entry-held bankCount (k .cbank) bp (r .banks) (f .cbank);
+    dbank = entry-held bankCount (k .dbank) bp (r .banks) (f .dbank);
+    creditors = r .creditors .bounded;
+    debtors = r .debtors .bounded;
+    banks = r .banks .bounded;
+    total-bounded = r .total-bounded;
     creditor-amount = a .creditor;
     debtor-amount = a .debtor;
     cbank-amount = a .cbank;
@@ -217,59 +237,64 @@ module _ (t : Treatment) (date : ℕ) (k : Collection) (total : ℤ) (cp dp bp :
   }
 
 go-postable :
-    (t : Treatment) (date row : ℕ) (k : Collection) (total : ℤ) (cp dp bp : List ℤ) → Treatable date k → Payable t date k
-    → Held creditorCount cp → Held debtorCount dp → Held bankCount bp → natAbs total ≤ positionLimit
-    → (row' : ℕ) (k' : Collection) (p : Postings) → goVerdict t date row k ≡ Post row' k' p → Postable k' p total cp dp bp
-go-postable Settle date row k total cp dp bp f a hc hd hb ht row' k' p e =
+    (t : Treatment) {latest date : ℕ} {total : ℤ} {cs : List ℕ} {used : ℕ} {cp dp bp : List ℤ} (row : ℕ) (k : Collection)
+    → Ready t latest date total cs used cp dp bp → Treatable date k → Payable t date k
+    → {row' : ℕ} {k' : Collection} {p : Postings} → goVerdict t date row k ≡ Post row' k' p → Postable k' p total cp dp bp
+go-postable Settle {date = date} row k r f a {row'} {k'} {p} e =
     let ek : k' ≡ treated Settle date k = cc in
     let ep : p ≡ settlement (k .amount) = cc in
+    let h : k .amount ≤ positionLimit = omega (arith, a .amount) in
     rw (ek, ep)
-    (postable Settle date k total cp dp bp f hc hd hb ht (settlement (k .amount))
-    (atMost-mono (k .amount) positionLimit (settlement (k .amount)) (omega (arith, a .amount)) (settlement-size (k .amount))))
-go-postable Reject date row k total cp dp bp f a hc hd hb ht row' k' p e = let z : _≡_ {A = ℕ} 0 1 = cc in absurd (omega arith)
-go-postable (Undo way) date row k total cp dp bp f a hc hd hb ht row' k' p e =
+    (postable r k f (settlement (k .amount)) (atMost-mono (k .amount) positionLimit (settlement (k .amount)) h (settlement-size (k .amount))))
+go-postable Reject row k r f a e = let z : _≡_ {A = ℕ} 0 1 = cc in absurd (omega arith)
+go-postable (Undo way) {date = date} row k r f a {row'} {k'} {p} e =
     let ek : k' ≡ treated (Undo way) date k = cc in
     let ep : p ≡ undone way (k .amount) (settledOn (k .state)) date = cc in
     rw (ek, ep)
-    (postable (Undo way) date k total cp dp bp f hc hd hb ht (undone way (k .amount) (settledOn (k .state)) date)
+    (postable r k f (undone way (k .amount) (settledOn (k .state)) date)
     (undone-size way (k .amount) (settledOn (k .state)) date (a .undoing way refl)))
 
 -- what a verdict to post tells of the tests
 row-posts :
     (t : Treatment) (date row : ℕ) (k : Collection) (row' : ℕ) (k' : Collection) (p : Postings) (s d i : Bool)
-    → judged (check s (Refuse WrongState) ∷ check d (Refuse BeforeDue) ∷ check i (Refuse AfterLastDay) ∷ []) (goVerdict t date row k) ≡ Post row' k' p
+    → rowJudged Refuse s d i (goVerdict t date row k) ≡ Post row' k' p
     → (s ≡ true) × (i ≡ true) × (goVerdict t date row k ≡ Post row' k' p)
 row-posts t date row k row' k' p false d i e = let z : _≡_ {A = ℕ} 0 1 = cc in absurd (omega arith)
 row-posts t date row k row' k' p true false i e = let z : _≡_ {A = ℕ} 0 1 = cc in absurd (omega arith)
 row-posts t date row k row' k' p true true false e = let z : _≡_ {A = ℕ} 0 1 = cc in absurd (omega arith)
 row-posts t date row k row' k' p true true true e = (refl, refl, e)
 
-module _ (t : Treatment) (latest date : ℕ) (total : ℤ) (cs : List ℕ) (used number : ℕ) (cp dp bp : List ℤ) (r : Ready t latest date total cs used cp dp bp) (row' : ℕ) (k' : Collection) (p : Postings) where
+module _
+    {t : Treatment} {latest date : ℕ} {total : ℤ} {cs : List ℕ} {used : ℕ} {cp dp bp : List ℤ} (number : ℕ)
+    (r : Ready t latest date total cs used cp dp bp) {row : ℕ} {k : Collection} {p : Postings} where
   found-posts :
-      (f : Found) → lookup cs used number ≡ f → latest ≤ date → foundVerdict t date cs f ≡ Post row' k' p → Postable k' p total cp dp bp
+      (f : Found) → lookup cs used number ≡ f → latest ≤ date → foundVerdict t date cs f ≡ Post row k p
+      → Postable k p total cp dp bp
   unfolding rowVerdict
   found-posts Nothing q h e = let z : _≡_ {A = ℕ} 0 1 = cc in absurd (omega arith)
-  found-posts (At row) q h e =
-      let k = collectionAt cs row in
-      let g = row-posts t date row k row' k' p (stateFits t (k .state)) (dueTreated t (k .due) date) (timeTreated t (k .state) date) e in
+  found-posts (At at) q h e =
+      let k' = collectionAt cs at in
+      let state = stateFits t (k' .state) in
+      let due = dueTreated t (k' .due) date in
+      let time = timeTreated t (k' .state) date in
+      let g = row-posts t date at k' row k p state due time e in
       let w = found-ready number (r .judgeable) h q in
-      go-postable t date row k total cp dp bp (w .row-fit) (row-payable w (g .0) (g .1)) (r .creditors) (r .debtors) (r .banks) (r .total-bounded)
-      row' k' p (g .2)
+      go-postable t at k' r (w .row-fit) (row-payable w (g .0) (g .1)) (g .2)
 
   tests-post :
       (b d : Bool) → leb latest date ≡ b
-      → judged (check b (Refuse BeforeLatest) ∷ check d (Refuse NotBusinessDay) ∷ []) (foundVerdict t date cs (lookup cs used number)) ≡ Post row' k' p
-      → Postable k' p total cp dp bp
+      → judged
+      (check b (Refuse BeforeLatest) ∷ check d (Refuse NotBusinessDay) ∷ [])
+      (foundVerdict t date cs (lookup cs used number))
+      ≡ Post row k p
+      → Postable k p total cp dp bp
   tests-post false d q e = let z : _≡_ {A = ℕ} 0 1 = cc in absurd (omega arith)
   tests-post true false q e = let z : _≡_ {A = ℕ} 0 1 = cc in absurd (omega arith)
   tests-post true true q e = found-posts (lookup cs used number) refl (leb-true latest date q) e
 
-pub verdict-postable :
-    {t : Treatment} {latest date : ℕ} {total : ℤ} {cs : List ℕ} {used : ℕ} {cp dp bp : List ℤ} {row : ℕ} {k : Collection} {p : Postings} (number : ℕ)
-    → Ready t latest date total cs used cp dp bp → verdictOf t latest date cs used number ≡ Post row k p → Postable k p total cp dp bp
-unfolding verdictOf
-verdict-postable {t} {latest} {date} {total} {cs} {used} {cp} {dp} {bp} {row} {k} {p} number r e =
-    tests-post t latest date total cs used number cp dp bp r row k p (leb latest date) (dayTreated t date) refl e
+  pub verdict-postable : verdictOf t latest date cs used number ≡ Post row k p → Postable k p total cp dp bp
+  unfolding verdictOf
+  verdict-postable e = tests-post (leb latest date) (dayTreated t date) refl e
 
 -- ---- Ready: a fit ledger is ready
 
@@ -287,12 +312,16 @@ in-table count positions size f = record { size = size; bounded = bounded }
     bounded zero = omega arith
     bounded (suc i) = by-place i (ltb i (length positions)) refl
 
-fit-held : (count : ℕ) (positions : List ℤ) → length positions ≡ count → positionsFit positions ≡ true → Held count positions
+fit-held :
+    (count : ℕ) (positions : List ℤ) → length positions ≡ count → positionsFit positions ≡ true → Held count positions
 fit-held count positions size e =
-    in-table count positions size (λ i h. position-facts (getD positions i (pos 0)) (positionsFit-at positions e i (omega (arith, size))))
+    in-table count positions size
+    (λ i h. position-facts (getD positions i (pos 0)) (positionsFit-at positions e i (omega (arith, size))))
 
 -- the settled day of a state that fits
-settled-day : (latest day : ℕ) (s : State) → dayFit latest (stateTag s) (stateDay s) ≡ true → s ≡ Settled day → (inRange day ≡ true) × (day ≤ latest)
+settled-day :
+    (latest day : ℕ) (s : State) → dayFit latest (stateTag s) (stateDay s) ≡ true → s ≡ Settled day
+    → (inRange day ≡ true) × (day ≤ latest)
 settled-day latest day Presented e q = let z : _≡_ {A = ℕ} 0 1 = cc in absurd (omega arith)
 settled-day latest day Rejected e q = let z : _≡_ {A = ℕ} 0 1 = cc in absurd (omega arith)
 settled-day latest day (Settled x) e q =

@@ -2,7 +2,7 @@
 -- serve the proofs of src/verdicts and src/treatments. Assumes nothing.
 use mathlib.Core.Path.{_≡_, refl, sym, _∙_, ap}
 use mathlib.Core.Bool.{Bool, true, false, cond, not}
-use mathlib.Core.List.{List, [], _∷_}
+use mathlib.Core.List.{List}
 use Prim.Native.Nat.{ℕ, _+_, _-_, _*_, _≤_, _<_}
 use native.Mathlib.Omega.{arith}
 use borrow.Author.Tests.{le-leb, lt-leb, ne-eqb}
@@ -10,7 +10,6 @@ use lib.Dec.{eqb, leb}
 use lib.IntN.{ℤ, pos, natAbs, _+ℤ_, +ℤ-idr}
 use mir.Syntax.{w64}
 use mir.Val.{SFits, toZ, ofZ}
-use Rattle.common.specs.Checks.{check, judged}
 use Rattle.refusals.specs.declared.Refusal.the-variants.{BeforeLatest, NotBusinessDay, WrongState, BeforeDue, AfterLastDay}
 use Rattle.events.specs.declared.Event.{Event}
 use Rattle.positions.specs.Positions.{Entry, positionLimit, position, posted}
@@ -41,7 +40,7 @@ use Rattle.book.specs.declared.Outcome.{Outcome}
 use Rattle.book.specs.Calls.{Done}
 use Rattle.book.specs.declared.verdicts.Verdict.{Verdict}
 use Rattle.book.specs.declared.verdicts.Verdict.the-variants.{Refuse, Mark, Post}
-use Rattle.book.specs.Treatments.{treatmentIn, postVerdict, goVerdict, rowVerdict, foundVerdict, verdictOf, answerIn, headerAfter, afterVerdict}
+use Rattle.book.specs.Treatments.{rowJudged, treatmentIn, postVerdict, goVerdict, rowVerdict, foundVerdict, verdictOf, answerIn, headerAfter, afterVerdict}
 use Rattle.book.specs.Ready.{Payable, Postable}
 
 -- ---- what an event of kind 6 to 10 asks for
@@ -75,7 +74,9 @@ action-treats e h =
 -- ---- the verdict on a row
 
 module _ (date row : ℕ) (k next : Collection) (p : PostingsAnswer) where
-  pub go-settle : Payable Settle date k → next ≡ treated Settle date k → p ≡ settlementOf (k .amount) → postVerdict row next p ≡ goVerdict Settle date row k
+  pub go-settle :
+      Payable Settle date k → next ≡ treated Settle date k → p ≡ settlementOf (k .amount)
+      → postVerdict row next p ≡ goVerdict Settle date row k
   go-settle h e f = rw (e, f, settlementOf-is (k .amount) (h .amount))
 
   pub go-undo :
@@ -88,7 +89,9 @@ module _ (t : Treatment) (date row : ℕ) (k : Collection) where
   unfolding rowVerdict
   row-state e = rw e
 
-  pub row-due : stateFits t (k .state) ≡ true → dueTreated t (k .due) date ≡ false → rowVerdict t date row k ≡ Refuse BeforeDue
+  pub row-due :
+      stateFits t (k .state) ≡ true → dueTreated t (k .due) date ≡ false
+      → rowVerdict t date row k ≡ Refuse BeforeDue
   unfolding rowVerdict
   row-due e f = rw (e, f)
 
@@ -111,7 +114,9 @@ module _ (t : Treatment) (latest date : ℕ) (collections : List ℕ) (used numb
   unfolding verdictOf
   verdict-early h = rw (lt-leb latest date h)
 
-  pub verdict-day : latest ≤ date → dayTreated t date ≡ false → verdictOf t latest date collections used number ≡ Refuse NotBusinessDay
+  pub verdict-day :
+      latest ≤ date → dayTreated t date ≡ false
+      → verdictOf t latest date collections used number ≡ Refuse NotBusinessDay
   unfolding verdictOf
   verdict-day h e = rw (le-leb latest date h, e)
 
@@ -131,8 +136,7 @@ go-answer (Undo way) date row k = refl
 module _ (l : Ledger) (date number : ℕ) (t : Treatment) where
   row-answer :
       (k : Collection) (row : ℕ) (s d i : Bool)
-      → judged (check s (Refused WrongState) ∷ check d (Refused BeforeDue) ∷ check i (Refused AfterLastDay) ∷ []) Accepted
-      ≡ answerIn (judged (check s (Refuse WrongState) ∷ check d (Refuse BeforeDue) ∷ check i (Refuse AfterLastDay) ∷ []) (goVerdict t date row k))
+      → rowJudged Refused s d i Accepted ≡ answerIn (rowJudged Refuse s d i (goVerdict t date row k))
   row-answer k row false d i = refl
   row-answer k row true false i = refl
   row-answer k row true true false = refl
@@ -140,14 +144,8 @@ module _ (l : Ledger) (date number : ℕ) (t : Treatment) where
 
   row-after :
       (k : Collection) (row : ℕ) (s d i : Bool)
-      → afterAnswer
-      (judged (check s (Refused WrongState) ∷ check d (Refused BeforeDue) ∷ check i (Refused AfterLastDay) ∷ []) Accepted)
-      (afterVerdict (goVerdict t date row k) date l)
-      l
-      ≡ afterVerdict
-      (judged (check s (Refuse WrongState) ∷ check d (Refuse BeforeDue) ∷ check i (Refuse AfterLastDay) ∷ []) (goVerdict t date row k))
-      date
-      l
+      → afterAnswer (rowJudged Refused s d i Accepted) (afterVerdict (goVerdict t date row k) date l) l
+      ≡ afterVerdict (rowJudged Refuse s d i (goVerdict t date row k)) date l
   row-after k row false d i = refl
   row-after k row true false i = refl
   row-after k row true true false = refl
@@ -166,7 +164,8 @@ effect-found l date number row (Undo way) e = rw e
 
 module _ (l : Ledger) (date number : ℕ) (t : Treatment) where
   by-found :
-      (f : Found) → lookup (l .collections) (l .collectionsUsed) number ≡ f → (b d : Bool) → leb (l .latest) date ≡ b → dayTreated t date ≡ d
+      (f : Found) → lookup (l .collections) (l .collectionsUsed) number ≡ f
+      → (b d : Bool) → leb (l .latest) date ≡ b → dayTreated t date ≡ d
       → (ruled l date (Treat number t) ≡ answerIn (verdictOf t (l .latest) date (l .collections) (l .collectionsUsed) number))
       × (afterAnswer (ruled l date (Treat number t)) (effect l date (Treat number t)) l
       ≡ afterVerdict (verdictOf t (l .latest) date (l .collections) (l .collectionsUsed) number) date l)
@@ -175,10 +174,13 @@ module _ (l : Ledger) (date number : ℕ) (t : Treatment) where
   by-found f q true false e g = (rw (e, g), rw (e, g))
   by-found Nothing q true true e g = (rw (e, g, q), rw (e, g, q))
   by-found (At row) q true true e g =
-      let k = collectionAt (l .collections) row in (
-        rw (e, g, q) (row-answer l date number t k row (stateFits t (k .state)) (dueTreated t (k .due) date) (timeTreated t (k .state) date)),
+      let k = collectionAt (l .collections) row in
+      let state = stateFits t (k .state) in
+      let due = dueTreated t (k .due) date in
+      let time = timeTreated t (k .state) date in (
+        rw (e, g, q) (row-answer l date number t k row state due time),
         rw (effect-found l date number row t q, e, g, q)
-            (row-after l date number t k row (stateFits t (k .state)) (dueTreated t (k .due) date) (timeTreated t (k .state) date)),
+            (row-after l date number t k row state due time),
       )
 
 -- the answer and the ledger after a verdict, as the model has them
@@ -198,7 +200,9 @@ treat-done {l} {l'} {date} {number} {t} e p q =
 -- ---- what is written
 
 -- the sum of two signed numbers, as 64 bits hold them
-pub sum-fits : (a b : ℤ) → natAbs a ≤ positionLimit → natAbs b ≤ positionLimit → SFits w64 (toZ w64 (ofZ w64 a) +ℤ toZ w64 (ofZ w64 b))
+pub sum-fits :
+    (a b : ℤ) → natAbs a ≤ positionLimit → natAbs b ≤ positionLimit
+    → SFits w64 (toZ w64 (ofZ w64 a) +ℤ toZ w64 (ofZ w64 b))
 sum-fits a b p q =
     rw (bits-back a (omega arith), bits-back b (omega arith)) (size-fits (a +ℤ b) (omega (arith, size-add a b)))
 
@@ -212,7 +216,9 @@ pub amount-back : (a : ℤ) → natAbs a ≤ positionLimit → toZ w64 (ofZ w64 
 amount-back a p = bits-back a (omega arith)
 
 -- a posting within the limit, to a table not far beyond it
-post-is : (l : List ℤ) (k : ℕ) (x : ℤ) → Entry l k → natAbs (position l k) ≤ 2 * positionLimit → natAbs x ≤ positionLimit → afterPost l k x ≡ posted l k x
+post-is :
+    (l : List ℤ) (k : ℕ) (x : ℤ) → Entry l k → natAbs (position l k) ≤ 2 * positionLimit → natAbs x ≤ positionLimit
+    → afterPost l k x ≡ posted l k x
 post-is l k x e h g = post-fits l k x e (omega arith) (omega arith) .1
 
 pub written :

@@ -1,12 +1,8 @@
 -- `treat` writes what the verdict says; `treat-done` says that this is the model's answer and effect.
 -- Assumes nothing.
-use Rattle.tables.specs.Ledger.{Ledger, ledger}
-use Prim.Native.Nat.{ℕ}
-use mathlib.Core.List.{List}
 use mathlib.Core.Path.{refl, sym, _∙_}
-use Rattle.book.specs.Treatments.{treatmentOf}
-use Rattle.book.proofs.Laws.Treatments.{treat-done, marked}
 use Rattle.book.proofs.Laws.Ready.{verdict-postable}
+use Rattle.book.proofs.Laws.Treatments.{treat-done, marked}
 use borrow.Author.Needs.{needs}
 use Rattle.book.proofs.treatments.treat.Statement.{statement}
 use Rattle.book.proofs.treatments.treat.Tie as tie

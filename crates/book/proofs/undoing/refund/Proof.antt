@@ -28,13 +28,21 @@ enum-told-2 : tie.Need-enum-told-2
 enum-told-2 c = search needs
 
 returns-2 : tie.Need-returns-2
-returns-2 c = absurd (refund-no-cents (c .before .before .before .before .before .before .before .pre) (sym (c .before .before .before .before .before .before .days-between .ensures) ∙ c .before .before .before .before .days .given .1) (sym (c .before .before .compensation .ensures) ∙ c .enum-told2 .given .1))
+returns-2 c =
+    let d = c .before .before .before .before in
+    absurd
+    (refund-no-cents (d .before .before .before .pre) (sym (d .before .before .days-between .ensures) ∙ d .days .given .1)
+    (sym (c .before .before .compensation .ensures) ∙ c .enum-told2 .given .1))
 
 refunded-requires : tie.Need-refunded-requires
 refunded-requires c κs = search needs
 
 returns-3 : tie.Need-returns-3
-returns-3 c = c .refunded .ensures ∙ refund-posts (c .before .before .before .before .before .before .before .before .before .pre) (sym (c .before .before .before .before .before .before .before .before .days-between .ensures) ∙ c .before .before .before .before .before .before .days .given .1) (sym (c .before .before .before .before .compensation .ensures) ∙ c .before .before .cents .given .1)
+returns-3 c =
+    let d = c .before .before .before .before .before .before in
+    c .refunded .ensures
+    ∙ refund-posts (d .before .before .before .pre) (sym (d .before .before .days-between .ensures) ∙ d .days .given .1)
+    (sym (c .before .before .before .before .compensation .ensures) ∙ c .before .before .cents .given .1)
 
 pub refund-spec : {M : Type 1} → statement M
 refund-spec =
