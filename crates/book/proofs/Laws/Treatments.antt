@@ -215,6 +215,9 @@ sum-back a b p q =
 pub amount-back : (a : ℤ) → natAbs a ≤ positionLimit → toZ w64 (ofZ w64 a) ≡ a
 amount-back a p = bits-back a (omega arith)
 
+pub amount-bound : (a : ℤ) → natAbs a ≤ positionLimit → natAbs (toZ w64 (ofZ w64 a)) ≤ positionLimit
+amount-bound a p = rw (amount-back a p) p
+
 -- a posting within the limit, to a table not far beyond it
 post-is :
     (l : List ℤ) (k : ℕ) (x : ℤ) → Entry l k → natAbs (position l k) ≤ 2 * positionLimit → natAbs x ≤ positionLimit

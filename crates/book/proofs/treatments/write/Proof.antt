@@ -1,6 +1,6 @@
 -- `write` stores a row and makes four postings, each of which is made (`written`).
 -- Assumes nothing.
-use Rattle.book.proofs.Laws.Treatments.{amount-back, written}
+use Rattle.book.proofs.Laws.Treatments.{amount-back, amount-bound, written}
 use borrow.Author.Needs.{needs}
 use Rattle.book.proofs.treatments.write.Statement.{statement}
 use Rattle.book.proofs.treatments.write.Tie as tie
@@ -23,7 +23,7 @@ post-requires-4 c κs = search needs
 header-after-requires : tie.Need-header-after-requires
 header-after-requires c κs =
     let s = c .before .before .before .before .before .before .before .before .before .before .before .before .before .before .before .before .before .before .before .before .before .before in
-    (s .pre .total-bounded, rw (amount-back (s .args .p .compensation) (s .pre .cents)) (s .pre .cents))
+    (s .pre .total-bounded, amount-bound (s .args .p .compensation) (s .pre .cents))
 
 same-length : tie.Need-same-length
 same-length c = c .before .before .before .before .before .before .before .before .before .before .before .before .before .before .before .before .before .before .before .before .put-collection .kept .0
