@@ -24,8 +24,10 @@ use Rattle.model.specs.Step.{answer, after}
 use Rattle.book.specs.declared.Outcome.{Outcome}
 use Rattle.book.specs.Calls.{Done}
 use Rattle.book.specs.Events.{amendmentIn, Recorded, Admitted, Taken}
-use Rattle.book.specs.Treatments.{treatmentIn, Ready}
-use Rattle.book.proofs.Laws.Treatments.{fit-ready, event-asked, action-treats}
+use Rattle.book.specs.Treatments.{treatmentIn}
+use Rattle.book.specs.Ready.{Ready}
+use Rattle.book.proofs.Laws.Treatments.{action-treats}
+use Rattle.book.proofs.Laws.Ready.{fit-ready, event-asked}
 
 -- ---- what each kind asks for
 
