@@ -1,10 +1,10 @@
 // The ledger: the call for the ten events, the position query, and replay. Every contract is an equation with the model.
-pub mod event;
-pub mod query;
 mod collect;
 mod creditors;
+pub mod event;
 mod headers;
 mod mandates;
+pub mod query;
 mod terms;
 mod treatments;
 mod undoing;
