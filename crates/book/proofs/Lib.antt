@@ -1,2 +1,1 @@
--- What the proofs of the book cite.
-pub mod Laws
+pub mod Laws  -- the book's laws, for its own proofs

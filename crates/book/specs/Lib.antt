@@ -2,6 +2,6 @@
 pub mod Calls  -- an event done to a ledger
 pub mod Mandates  -- events 2, 3 and 4
 pub mod Collect  -- event 5
-pub mod Treatments  -- events 6 to 10: verdicts, and what fitness gives
+pub mod Treatments  -- events 6 to 10: what is asked for, verdicts
+pub mod Ready  -- events 6 to 10: what fitness gives
 pub mod Events  -- the call for the ten events
-pub mod Queries  -- the figure of a position query

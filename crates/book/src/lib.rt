@@ -8,6 +8,7 @@ pub mod query;
 mod terms;
 mod treatments;
 mod undoing;
+mod verdicts;
 
 use model::Answer;
 use tables::Header;

@@ -1,8 +1,9 @@
 // The position query. Document 01, "Records": a kind and a number; refusals 2 and 5.
 ghost use mathlib.Core.Path.{_≡_};
+ghost use mathlib.Core.List.{List};
+ghost use Prim.Native.Nat.{ℕ};
 ghost use Rattle.tables.specs.Ledger.{ledger};
-ghost use Rattle.model.specs.Step.{inQuery, query};
-ghost use Rattle.book.specs.Queries.{figureIn};
+ghost use Rattle.model.specs.Step.{inQuery, figureOf, query};
 use model::QueryAnswer;
 use positions::posting::position_of;
 use refusals::Refusal;
@@ -34,14 +35,14 @@ fn in_query(kind: u64, number: u64) -> bool
 
 // The figure of a kind and a number within their limits.
 fn figure(
+    header: Header,
     kind: u64,
     number: u64,
-    compensation: i64,
     creditor_positions: &[i64],
     debtor_positions: &[i64],
     bank_positions: &[i64],
 ) -> i64
-    ensures { λ r. ⌜ r ≡ figureIn kind number compensation (now («creditor_positions» .entry)) (now («debtor_positions» .entry)) (now («bank_positions» .entry)) ⌝ }
+    ensures { λ r. ⌜ ((m c k : List ℕ) → r ≡ figureOf (ledger header m c k (now («creditor_positions» .entry)) (now («debtor_positions» .entry)) (now («bank_positions» .entry))) kind number) ⌝ }
 {
     if kind == 1 {
         return position_of(creditor_positions, number);
@@ -52,7 +53,7 @@ fn figure(
     if kind == 3 {
         return position_of(bank_positions, number);
     }
-    compensation
+    header.compensation
 }
 
 // The position of a creditor (kind 1), debtor (2) or bank (3), or the total compensation (4, number 0), in cents.
@@ -84,9 +85,9 @@ pub fn position(
         return QueryAnswer::Refused(Refusal::BadField);
     }
     QueryAnswer::Figure(figure(
+        header,
         kind,
         number,
-        header.compensation,
         creditor_positions,
         debtor_positions,
         bank_positions,

@@ -6,7 +6,8 @@ ghost use Rattle.positions.specs.declared.PostingsAnswer.the-variants.{Amounts 
 ghost use Rattle.model.specs.Actions.Way.{ByRefund};
 ghost use Rattle.model.specs.Deadlines.{period as periodIn, core, periodOf, lastDay, inTime, daysSince};
 ghost use Rattle.model.specs.Effects.{undone as undoneBy};
-ghost use Rattle.book.specs.Treatments.{wayOf, rateOf, Refundable};
+ghost use Rattle.book.specs.Treatments.{wayOf, rateOf};
+ghost use Rattle.book.specs.Ready.{Refundable};
 use calendar::BusinessDays;
 use calendar::CalendarDays;
 use calendar::DateAnswer;

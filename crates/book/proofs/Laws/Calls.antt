@@ -14,8 +14,7 @@ use Rattle.model.specs.declared.Answer.the-variants.{Accepted, Refused}
 use Rattle.model.specs.Actions.{Action}
 use Rattle.model.specs.Checks.{checks, ruled}
 use Rattle.model.specs.Effects.{effect}
-use Rattle.model.specs.Step.{afterAnswer, isAccepted}
-use Rattle.book.specs.declared.Outcome.{Outcome}
+use Rattle.model.specs.Step.{isAccepted}
 use Rattle.book.specs.Calls.{Done}
 
 module _ (l : Ledger) (date : ℕ) (a : Action) (h : Header) where

@@ -1,8 +1,8 @@
 -- Laws of event 5: the answer by the tests in their order, and the effect by the mandate's row.
 -- To cite: `collect-early` to `collect-go`, `collect-room`, `collect-effect`, and the two records that it writes,
 -- `presentedOn-made` and `newCollection-made`. Assumes nothing.
-use mathlib.Core.Path.{_≡_, refl, sym, _∙_}
-use mathlib.Core.Bool.{Bool, true, false, not, _&&_}
+use mathlib.Core.Path.{_≡_, _∙_}
+use mathlib.Core.Bool.{true, false, not, _&&_}
 use mathlib.Core.List.{List}
 use Prim.Native.Nat.{ℕ, _+_, _≤_, _<_}
 use borrow.Author.Tests.{le-leb, lt-leb, lt-ltb, le-ltb, ltb-true}
@@ -17,7 +17,6 @@ use Rattle.tables.specs.declared.State.the-variants.{Presented}
 use Rattle.tables.specs.Ledger.{Ledger, bankOf}
 use Rattle.tables.specs.Lookup.{lookup}
 use Rattle.tables.specs.Rows.{rows, mandateAt, collectionAt, putMandate, putCollection}
-use Rattle.model.specs.declared.Answer.{Answer}
 use Rattle.model.specs.declared.Answer.the-variants.{Accepted, Refused}
 use Rattle.model.specs.Actions.Action.{Collect}
 use Rattle.model.specs.Deadlines.{keptDue}
@@ -25,7 +24,7 @@ use Rattle.model.specs.Lookups.{isKnown, mandateOf, collectionOf}
 use Rattle.model.specs.Checks.{ruled}
 use Rattle.model.specs.Effects.{effect, dated, withMandates, withCollections, presentedOn, newCollection}
 use Rattle.book.specs.declared.collect.Presentation.{Presentation}
-use Rattle.book.specs.Mandates.{isFound, MandateIn, GoMandate}
+use Rattle.book.specs.Mandates.{isFound, GoMandate}
 use Rattle.book.specs.Collect.{presentationOf, termsAnswer, standingAfter}
 use Rattle.book.proofs.Laws.Calls.{accepted-passes}
 use Rattle.book.proofs.Laws.Mandates.{isKnown-row}

@@ -1,11 +1,8 @@
 -- Laws of the call for the ten events: what each kind asks for, and how the call composes. To cite: `action-creditor` to
 -- `action-treat`, `admitted-recorded`, `admitted-ready`, `taken-unfit`, `taken-refused`, `taken-done`. Assumes nothing.
-use mathlib.Core.Path.{_≡_, refl, sym, _∙_, ap}
+use mathlib.Core.Path.{_≡_, sym, _∙_, ap}
 use mathlib.Core.Bool.{true, false}
-use mathlib.Core.Logic.{_≢_}
-use Prim.Native.Nat.{ℕ, _≤_, _<_}
-use native.Mathlib.Omega.{arith}
-use borrow.Author.Tests.{eq-eqb, ne-eqb}
+use Prim.Native.Nat.{_≤_, _<_}
 use Rattle.refusals.specs.declared.Refusal.{Refusal}
 use Rattle.refusals.specs.declared.Refusal.the-variants.{UnfitMemory}
 use Rattle.events.specs.declared.Event.{Event}
@@ -16,7 +13,7 @@ use Rattle.tables.specs.declared.Header.{Header}
 use Rattle.tables.specs.declared.Mandate.{Mandate}
 use Rattle.tables.specs.Ledger.{Ledger}
 use Rattle.tables.specs.Fitness.{fit}
-use Rattle.model.specs.declared.Answer.the-variants.{Accepted, Refused}
+use Rattle.model.specs.declared.Answer.the-variants.{Refused}
 use Rattle.model.specs.Actions.{Change, Presentation, Treatment, newMandate, presentation, actionOf}
 use Rattle.model.specs.Actions.Action.{AddCreditor, AddMandate, ChangeMandate, Collect, Treat}
 use Rattle.model.specs.Actions.Change.{Cancel}
@@ -24,8 +21,10 @@ use Rattle.model.specs.Step.{answer, after}
 use Rattle.book.specs.declared.Outcome.{Outcome}
 use Rattle.book.specs.Calls.{Done}
 use Rattle.book.specs.Events.{amendmentIn, Recorded, Admitted, Taken}
-use Rattle.book.specs.Treatments.{treatmentIn, Ready}
-use Rattle.book.proofs.Laws.Treatments.{fit-ready, event-asked, action-treats}
+use Rattle.book.specs.Treatments.{treatmentIn}
+use Rattle.book.specs.Ready.{Ready}
+use Rattle.book.proofs.Laws.Treatments.{action-treats}
+use Rattle.book.proofs.Laws.Ready.{fit-ready, event-asked}
 
 -- ---- what each kind asks for
 

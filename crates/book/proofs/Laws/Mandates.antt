@@ -1,12 +1,10 @@
 -- Laws of events 2, 3 and 4: the answer by the tests in their order, and the effect by the row.
 -- To cite: `mandate-early` to `mandate-new`, `mandate-room`, `mandate-effect`; `change-early` to `change-live`,
 -- `change-effect`. Assumes nothing.
-use mathlib.Core.Path.{_≡_, refl, sym, _∙_, ap}
-use mathlib.Core.Bool.{Bool, true, false, cond, not, _&&_}
-use mathlib.Core.List.{List}
+use mathlib.Core.Path.{_≡_, refl}
+use mathlib.Core.Bool.{true, false}
 use Prim.Native.Nat.{ℕ, _+_, _≤_, _<_}
 use borrow.Author.Tests.{le-leb, lt-leb, lt-ltb, le-ltb, ltb-true}
-use lib.Dec.{leb, ltb}
 use Rattle.refusals.specs.declared.Refusal.the-variants.{BeforeLatest, AlreadyExists, DoesNotExist, NoRowLeft, NotLive}
 use Rattle.tables.specs.declared.Found.{Found}
 use Rattle.tables.specs.declared.Found.the-variants.{At, Nothing}
@@ -14,15 +12,14 @@ use Rattle.tables.specs.declared.Mandate.{Mandate}
 use Rattle.tables.specs.Ledger.{Ledger, added}
 use Rattle.tables.specs.Lookup.{lookup}
 use Rattle.tables.specs.Rows.{rows, mandateAt, putMandate}
-use Rattle.model.specs.declared.Answer.{Answer}
 use Rattle.model.specs.declared.Answer.the-variants.{Accepted, Refused}
 use Rattle.model.specs.Actions.Action.{AddMandate, ChangeMandate}
-use Rattle.model.specs.Lookups.{Known, isKnown, inRow, mandateOf, collectionOf}
+use Rattle.model.specs.Lookups.{isKnown, inRow, mandateOf}
 use Rattle.model.specs.Checks.{ruled, changeNames, standsLive}
 use Rattle.model.specs.Effects.{effect, dated, withMandates, changed}
 use Rattle.book.specs.declared.mandates.Change.{Change}
 use Rattle.book.specs.declared.mandates.Change.the-variants.{NewBank, NewCreditor, Cancel}
-use Rattle.book.specs.Mandates.{isFound, changeOf, namesAdded, MandateIn, GoMandate}
+use Rattle.book.specs.Mandates.{isFound, changeOf, namesAdded, GoMandate}
 use Rattle.book.proofs.Laws.Calls.{accepted-passes}
 
 -- ---- lookups

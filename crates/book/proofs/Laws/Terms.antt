@@ -2,7 +2,7 @@
 -- To cite: `keptDue-date`, `keptDue-none`, `timely-tests`, `lapseEnd-signed`, `lapseEnd-presented`, `terms-dead` to
 -- `terms-pass`. Assumes nothing.
 use mathlib.Core.Path.{_≡_, refl}
-use mathlib.Core.Bool.{Bool, true, false, not, _&&_}
+use mathlib.Core.Bool.{true, false, not, _&&_}
 use mathlib.Core.Logic.{_≢_}
 use Prim.Native.Nat.{ℕ}
 use borrow.Author.Tests.{eq-eqb, ne-eqb}

@@ -1,3 +1,5 @@
+-- `in_query` looks at the kind, then at the number.
+-- Assumes nothing.
 use borrow.Author.Tests.{ne-eqb}
 use Rattle.book.proofs.query.in_query.Statement.{statement}
 use Rattle.book.proofs.query.in_query.Tie as tie

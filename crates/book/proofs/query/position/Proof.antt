@@ -1,14 +1,14 @@
-use Rattle.book.specs.Queries.{figureIn}
-use Rattle.tables.specs.Fitness.{fit}
-use lib.IntN.{ℤ}
+-- `position` tests the lent memory, then the kind and number, and reads the figure: the laws of `query`.
+-- Assumes nothing.
 use mathlib.Core.Bool.{true}
-use mir.Syntax.{w64}
-use Rattle.model.specs.declared.QueryAnswer.the-variants.{Figure}
-use Rattle.tables.specs.Ledger.{Ledger, ledger}
 use mathlib.Core.Path.{_≡_, sym, _∙_, ap}
 use mir.Facts.{toZ-ofZ}
+use mir.Syntax.{w64}
 use Rattle.common.proofs.Tests.{not-true, not-false}
-use Rattle.book.proofs.Laws.Queries.{query-unfit, query-outside, query-figure, query-cents}
+use Rattle.model.specs.declared.QueryAnswer.the-variants.{Figure}
+use Rattle.tables.specs.Fitness.{fit}
+use Rattle.tables.specs.Ledger.{Ledger, ledger}
+use Rattle.book.proofs.Laws.Queries.{query-unfit, query-outside, query-figure}
 use borrow.Author.Needs.{needs}
 use Rattle.book.proofs.query.position.Statement.{statement}
 use Rattle.book.proofs.query.position.Tie as tie
@@ -24,6 +24,9 @@ book s =
     (s .args .debtor-positions .now)
     (s .args .bank-positions .now)
 
+memory-fit : (c : tie.Else1) → fit (book (c .before .before .before .before .before)) ≡ true
+memory-fit c = sym (c .before .is-fit .ensures) ∙ not-false (c .if1 .left)
+
 is-fit-requires : tie.Need-is-fit-requires
 is-fit-requires c κs = search needs
 
@@ -34,20 +37,28 @@ in-query-requires : tie.Need-in-query-requires
 in-query-requires c κs = search needs
 
 returns-2 : tie.Need-returns-2
-returns-2 c = sym (query-outside (book (c .before .before .before .before .before .before .before)) (c .before .before .before .before .before .before .before .args .kind) (c .before .before .before .before .before .before .before .args .number) (sym (c .before .before .before .is-fit .ensures) ∙ not-false (c .before .before .if1 .left)) (sym (c .before .in-query .ensures) ∙ not-true (c .if2 .taken)))
+returns-2 c =
+    let e = c .before .before in
+    let s = e .before .before .before .before .before in
+    sym
+    (query-outside (book s) (s .args .kind) (s .args .number)
+    (memory-fit e)
+    (sym (c .before .in-query .ensures) ∙ not-true (c .if2 .taken)))
 
 figure-requires : tie.Need-figure-requires
 figure-requires c κs = search needs
 
 returns-3 : tie.Need-returns-3
 returns-3 c =
-    let s = c .before .before .before .before .before .before .before .before .before in
-    let fits : fit (book s) ≡ true = sym (c .before .before .before .before .before .is-fit .ensures) ∙ not-false (c .before .before .before .before .if1 .left) in
+    let e = c .before .before .before in
+    let s = e .before .before .before .before .before in
     ap Figure
     (toZ-ofZ {w = w64} (record { sfits = c .figure .ok })
-    ∙ c .figure .ensures
-    ∙ ap (λ (z : ℤ). figureIn (s .args .kind) (s .args .number) z (s .args .creditor-positions .now) (s .args .debtor-positions .now) (s .args .bank-positions .now)) (query-cents (book s) (s .args .kind) (s .args .number) fits))
-    ∙ sym (query-figure (book s) (s .args .kind) (s .args .number) fits (sym (c .before .before .before .in-query .ensures) ∙ not-false (c .before .before .if2 .left)))
+    ∙ c .figure .ensures (s .args .mandates .now) (s .args .collections .now) (s .args .creditors .now))
+    ∙ sym
+    (query-figure (book s) (s .args .kind) (s .args .number)
+    (memory-fit e)
+    (sym (c .before .before .in-query .ensures) ∙ not-false (c .before .if2 .left)))
 
 pub position-spec : {M : Type 1} → statement M
 position-spec =

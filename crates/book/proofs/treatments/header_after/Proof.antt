@@ -1,3 +1,5 @@
+-- The new total compensation fits 64 bits, and reads as the sum.
+-- Assumes nothing.
 use Rattle.book.proofs.Laws.Treatments.{sum-fits, sum-back}
 use Rattle.book.proofs.treatments.header_after.Statement.{statement}
 use Rattle.book.proofs.treatments.header_after.Tie as tie

@@ -1,24 +1,11 @@
-use Rattle.tables.specs.Ledger.{Ledger, ledger}
-use Prim.Native.Nat.{ℕ}
-use mathlib.Core.List.{List}
+-- `treat` writes what the verdict says; `treat-done` says that this is the model's answer and effect.
+-- Assumes nothing.
 use mathlib.Core.Path.{refl, sym, _∙_}
-use Rattle.book.specs.Treatments.{treatmentOf}
-use Rattle.book.proofs.Laws.Treatments.{verdict-postable, treat-done, marked}
+use Rattle.book.proofs.Laws.Ready.{verdict-postable}
+use Rattle.book.proofs.Laws.Treatments.{treat-done, marked}
 use borrow.Author.Needs.{needs}
 use Rattle.book.proofs.treatments.treat.Statement.{statement}
 use Rattle.book.proofs.treatments.treat.Tie as tie
-
--- the ledger, with any mandates and creditors
-abbrev book : tie.Start → List ℕ → List ℕ → Ledger
-book s m c =
-    ledger
-    (s .args .header)
-    m
-    (s .args .collections .now)
-    c
-    (s .args .creditor-positions .now)
-    (s .args .debtor-positions .now)
-    (s .args .bank-positions .now)
 
 judge-requires : tie.Need-judge-requires
 judge-requires c κs = search needs
@@ -40,29 +27,35 @@ enum-known-row-2 c = search needs
 
 write-requires : tie.Need-write-requires
 write-requires c κs =
-    let s = c .before .before .before .before .before .before .before .before .before .before in
-    let a = s .args in
-    verdict-postable (treatmentOf (a .t)) (a .header .latest) (a .date) (a .header .compensation) (a .collections .now) (a .header .collections) (a .number) (a .creditor-positions .now) (a .debtor-positions .now) (a .bank-positions .now) (s .pre) _ _ _
+    verdict-postable
+    _
+    (c .before .before .before .before .before .before .before .before .before .before .pre)
     (sym (c .before .before .before .before .before .before .before .judge .ensures) ∙ c .before .before .before .before .before .row2 .given .1)
 
 same-length : tie.Need-same-length
 same-length c = search needs
 
 returns : tie.Need-returns
-returns c m k =
-    let s = c .before .before .before .before .before .before in
-    treat-done (book s m k) (s .args .date) (s .args .number) (treatmentOf (s .args .t)) _ (sym (c .before .before .before .judge .ensures) ∙ c .before .r .given .1) _ refl _ refl
+returns c m k = treat-done (sym (c .before .before .before .judge .ensures) ∙ c .before .r .given .1) refl refl
 
 same-length-2 : tie.Need-same-length-2
 same-length-2 c = search needs
 
 returns-2 : tie.Need-returns-2
 returns-2 c m k =
-    let s = c .before .before .before .before .before .before .before .before .before .before .before in
-    let a = s .args in
+    let a = c .before .before .before .before .before .before .before .before .before .before .before .args in
     let v = c .before .before .before .before .before .before .row in
-    treat-done (book s m k) (a .date) (a .number) (treatmentOf (a .t)) _ (sym (c .before .before .before .before .before .before .before .before .judge .ensures) ∙ c .before .before .before .before .before .before .row .given .1) _ refl _
-    (marked (a .header) (a .date) (v .given .0 .0) (v .given .0 .1 .0) (a .collections .now) (a .creditor-positions .now) (a .debtor-positions .now) (a .bank-positions .now) _ _ (c .before .before .before .put-collection .ensures) (c .header-after .ensures) m k)
+    treat-done (sym (c .before .before .before .before .before .before .before .before .judge .ensures) ∙ v .given .1) refl
+    (marked (a .header) (a .date) (v .given .0 .0) (v .given .0 .1 .0) (a .collections .now)
+    (a .creditor-positions .now)
+    (a .debtor-positions .now)
+    (a .bank-positions .now)
+    _
+    _
+    (c .before .before .before .put-collection .ensures)
+    (c .header-after .ensures)
+    m
+    k)
 
 same-length-3 : tie.Need-same-length-3
 same-length-3 c = search needs
@@ -78,8 +71,10 @@ same-length-6 c = search needs
 
 returns-3 : tie.Need-returns-3
 returns-3 c m k =
-    let s = c .before .before .before .before .before .before .before .before .before .before .before .before .before .before .before .before in
-    treat-done (book s m k) (s .args .date) (s .args .number) (treatmentOf (s .args .t)) _ (sym (c .before .before .before .before .before .before .before .before .before .before .before .before .before .judge .ensures) ∙ c .before .before .before .before .before .before .before .before .before .before .before .row2 .given .1) _ refl _ (c .before .before .before .before .before .write .ensures m k)
+    treat-done
+    (sym (c .before .before .before .before .before .before .before .before .before .before .before .before .before .judge .ensures) ∙ c .before .before .before .before .before .before .before .before .before .before .before .row2 .given .1)
+    refl
+    (c .before .before .before .before .before .write .ensures m k)
 
 pub treat-spec : {M : Type 1} → statement M
 treat-spec =

@@ -1,4 +1,6 @@
-use Rattle.book.proofs.Laws.Treatments.{amount-back, written}
+-- `write` stores a row and makes four postings, each of which is made (`written`).
+-- Assumes nothing.
+use Rattle.book.proofs.Laws.Treatments.{amount-back, amount-bound, written}
 use borrow.Author.Needs.{needs}
 use Rattle.book.proofs.treatments.write.Statement.{statement}
 use Rattle.book.proofs.treatments.write.Tie as tie
@@ -19,7 +21,9 @@ post-requires-4 : tie.Need-post-requires-4
 post-requires-4 c κs = search needs
 
 header-after-requires : tie.Need-header-after-requires
-header-after-requires c κs = (c .before .before .before .before .before .before .before .before .before .before .before .before .before .before .before .before .before .before .before .before .before .before .pre .total-bounded, rw (amount-back (c .before .before .before .before .before .before .before .before .before .before .before .before .before .before .before .before .before .before .before .before .before .before .args .p .compensation) (c .before .before .before .before .before .before .before .before .before .before .before .before .before .before .before .before .before .before .before .before .before .before .pre .cents)) (c .before .before .before .before .before .before .before .before .before .before .before .before .before .before .before .before .before .before .before .before .before .before .pre .cents))
+header-after-requires c κs =
+    let s = c .before .before .before .before .before .before .before .before .before .before .before .before .before .before .before .before .before .before .before .before .before .before in
+    (s .pre .total-bounded, amount-bound (s .args .p .compensation) (s .pre .cents))
 
 same-length : tie.Need-same-length
 same-length c = c .before .before .before .before .before .before .before .before .before .before .before .before .before .before .before .before .before .before .before .before .put-collection .kept .0
@@ -35,21 +39,27 @@ same-length-4 c = search needs
 
 returns : tie.Need-returns
 returns c =
-    let s = c .before .before .before .before .before .before .before .before .before .before .before .before .before .before .before .before .before .before .before .before .before .before .before in
+    let d = c .before .before .before .before .before .before .before .before .before .before .before in
+    let b = c .before .before .before in
+    let s = d .before .before .before .before .before .before .before .before .before .before .before .before in
     let a = s .args in
     let p = a .p in
-    written (a .header) (a .date) (a .row) (a .k) p (a .collections .now) (a .creditor-positions .now) (a .debtor-positions .now) (a .bank-positions .now) (s .pre)
+    written (a .header) (a .date) (a .row) (a .k) p (a .collections .now)
+    (a .creditor-positions .now)
+    (a .debtor-positions .now)
+    (a .bank-positions .now)
+    (s .pre)
     _ _ _ _ _ _ _ _ _ _ _
     (amount-back (p .creditor) (s .pre .creditor-amount))
     (amount-back (p .debtor) (s .pre .debtor-amount))
     (amount-back (p .dbank) (s .pre .dbank-amount))
     (amount-back (p .cbank) (s .pre .cbank-amount))
     (amount-back (p .compensation) (s .pre .cents))
-    (c .before .before .before .before .before .before .before .before .before .before .before .before .before .before .before .before .before .before .before .before .put-collection .ensures)
-    (c .before .before .before .before .before .before .before .before .before .before .before .before .before .before .before .post .ensures .1)
-    (c .before .before .before .before .before .before .before .before .before .before .before .post2 .ensures .1)
-    (c .before .before .before .before .before .before .before .post3 .ensures .1)
-    (c .before .before .before .post4 .ensures .1)
+    (d .before .before .before .before .before .before .before .before .before .put-collection .ensures)
+    (d .before .before .before .before .post .ensures .1)
+    (d .post2 .ensures .1)
+    (b .before .before .before .before .post3 .ensures .1)
+    (b .post4 .ensures .1)
     (c .header-after .ensures)
 
 pub write-spec : {M : Type 1} → statement M

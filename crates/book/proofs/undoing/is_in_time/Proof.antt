@@ -1,3 +1,5 @@
+-- `is_in_time` compares with the last day.
+-- Assumes nothing.
 use borrow.Author.Needs.{needs}
 use Rattle.book.proofs.undoing.is_in_time.Statement.{statement}
 use Rattle.book.proofs.undoing.is_in_time.Tie as tie

@@ -1,3 +1,5 @@
+-- `last_day` is the end of the way's period.
+-- Assumes nothing.
 use Rattle.model.specs.Deadlines.{lastDay}
 use borrow.Author.Needs.{needs}
 use Rattle.book.proofs.undoing.last_day.Statement.{statement}

@@ -1,3 +1,5 @@
+-- Each way's period is that of `core`.
+-- Assumes nothing.
 use borrow.Author.Needs.{needs}
 use Rattle.book.proofs.undoing.period_of.Statement.{statement}
 use Rattle.book.proofs.undoing.period_of.Tie as tie

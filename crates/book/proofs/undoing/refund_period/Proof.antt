@@ -1,3 +1,5 @@
+-- `refund_period` looks at the code.
+-- Assumes nothing.
 use borrow.Author.Tests.{ne-eqb}
 use borrow.Author.Needs.{needs}
 use Rattle.book.proofs.undoing.refund_period.Statement.{statement}

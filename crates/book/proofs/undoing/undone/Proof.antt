@@ -1,3 +1,5 @@
+-- `undone` posts the opposite of a settle, or a refund.
+-- Assumes nothing.
 use mathlib.Core.Path.{_∙_}
 use Rattle.positions.proofs.Laws.Answers.{reversedOf-is}
 use borrow.Author.Needs.{needs}

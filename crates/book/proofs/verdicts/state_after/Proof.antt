@@ -1,6 +1,8 @@
+-- Each treatment's answer is that of `stateAfter`.
+-- Assumes nothing.
 use borrow.Author.Needs.{needs}
-use Rattle.book.proofs.treatments.state_after.Statement.{statement}
-use Rattle.book.proofs.treatments.state_after.Tie as tie
+use Rattle.book.proofs.verdicts.state_after.Statement.{statement}
+use Rattle.book.proofs.verdicts.state_after.Tie as tie
 
 enum-told : tie.Need-enum-told
 enum-told c = search needs

@@ -1,6 +1,8 @@
+-- Each treatment's answer is that of `dueTreated`.
+-- Assumes nothing.
 use borrow.Author.Needs.{needs}
-use Rattle.book.proofs.treatments.due_fits.Statement.{statement}
-use Rattle.book.proofs.treatments.due_fits.Tie as tie
+use Rattle.book.proofs.verdicts.due_fits.Statement.{statement}
+use Rattle.book.proofs.verdicts.due_fits.Tie as tie
 
 enum-told : tie.Need-enum-told
 enum-told c = search needs

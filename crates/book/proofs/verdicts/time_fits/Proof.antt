@@ -1,6 +1,8 @@
+-- Each treatment's answer is that of `timeTreated`.
+-- Assumes nothing.
 use borrow.Author.Needs.{needs}
-use Rattle.book.proofs.treatments.time_fits.Statement.{statement}
-use Rattle.book.proofs.treatments.time_fits.Tie as tie
+use Rattle.book.proofs.verdicts.time_fits.Statement.{statement}
+use Rattle.book.proofs.verdicts.time_fits.Tie as tie
 
 enum-told : tie.Need-enum-told
 enum-told c = search needs

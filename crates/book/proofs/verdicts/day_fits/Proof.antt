@@ -1,6 +1,8 @@
+-- Each treatment's answer is that of `dayTreated`.
+-- Assumes nothing.
 use borrow.Author.Needs.{needs}
-use Rattle.book.proofs.treatments.day_fits.Statement.{statement}
-use Rattle.book.proofs.treatments.day_fits.Tie as tie
+use Rattle.book.proofs.verdicts.day_fits.Statement.{statement}
+use Rattle.book.proofs.verdicts.day_fits.Tie as tie
 
 enum-told : tie.Need-enum-told
 enum-told c = search needs

@@ -1,6 +1,8 @@
+-- `post_verdict` goes by the cases of `postVerdict`.
+-- Assumes nothing.
 use borrow.Author.Needs.{needs}
-use Rattle.book.proofs.treatments.post_verdict.Statement.{statement}
-use Rattle.book.proofs.treatments.post_verdict.Tie as tie
+use Rattle.book.proofs.verdicts.post_verdict.Statement.{statement}
+use Rattle.book.proofs.verdicts.post_verdict.Tie as tie
 
 enum-known-p : tie.Need-enum-known-p
 enum-known-p c = search needs

@@ -1,7 +1,9 @@
+-- `treated` makes the record anew, field by field.
+-- Assumes nothing.
 use Rattle.model.specs.Effects.{treated}
 use borrow.Author.Needs.{needs}
-use Rattle.book.proofs.treatments.treated.Statement.{statement}
-use Rattle.book.proofs.treatments.treated.Tie as tie
+use Rattle.book.proofs.verdicts.treated.Statement.{statement}
+use Rattle.book.proofs.verdicts.treated.Tie as tie
 
 state-after-requires : tie.Need-state-after-requires
 state-after-requires c κs = search needs
