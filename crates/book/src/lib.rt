@@ -5,6 +5,7 @@ pub mod event;
 mod headers;
 mod mandates;
 pub mod query;
+mod steps;
 mod terms;
 mod treatments;
 mod undoing;

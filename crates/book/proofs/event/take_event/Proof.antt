@@ -1,87 +1,74 @@
-use mathlib.Core.Path.{sym, _∙_}
-use Rattle.book.proofs.Laws.Events.{taken-unfit, taken-refused, taken-done}
-use borrow.Author.Tests.{not-true, not-false}
 use borrow.Author.Needs.{needs}
 use Rattle.book.proofs.event.take_event.Statement.{statement}
 use Rattle.book.proofs.event.take_event.Tie as tie
+use Rattle.book.proofs.event.take_event.Reads as reads
+use Rattle.book.proofs.event.take_event.Lts as lts
+use Rattle.book.proofs.steps.take_fit.Reads as take-fit-reads
+use Rattle.tables.proofs.fitness.is_fit.Reads as is-fit-reads
 
+-- src/event.rt:26:9
 is-fit-requires : tie.Need-is-fit-requires
 is-fit-requires c κs = search needs
 
+-- src/event.rt:35:9
 same-length : tie.Need-same-length
 same-length c = search needs
 
+-- src/event.rt:35:9
 same-length-2 : tie.Need-same-length-2
 same-length-2 c = search needs
 
+-- src/event.rt:35:9
 same-length-3 : tie.Need-same-length-3
 same-length-3 c = search needs
 
+-- src/event.rt:35:9
 same-length-4 : tie.Need-same-length-4
 same-length-4 c = search needs
 
+-- src/event.rt:35:9
 same-length-5 : tie.Need-same-length-5
 same-length-5 c = search needs
 
+-- src/event.rt:35:9
 same-length-6 : tie.Need-same-length-6
 same-length-6 c = search needs
 
+-- src/event.rt:35:9
 returns : tie.Need-returns
-returns c = taken-unfit _ _ _ (sym (c .before .is-fit .ensures) ∙ not-true _ (c .if1 .taken))
+returns c = ?
 
-check-requires : tie.Need-check-requires
-check-requires c κs = search needs
+-- src/event.rt:40:5
+take-fit-requires : tie.Need-take-fit-requires
+take-fit-requires c κs = ?
 
-enum-known-r : tie.Need-enum-known-r
-enum-known-r c = search needs
-
-enum-told : tie.Need-enum-told
-enum-told c = search needs
-
-act-requires : tie.Need-act-requires
-act-requires c κs = record { is-fit = sym (c .before .before .before .before .before .before .before .before .before .before .is-fit .ensures) ∙ not-false _ (c .before .before .before .before .before .before .before .before .before .if1 .left); is-within = sym (c .before .before .before .before .before .before .before .before .check .ensures) ∙ c .before .before .before .before .before .before .enum-told .given .1 }
-
+-- src/event.rt:13:1
 same-length-7 : tie.Need-same-length-7
 same-length-7 c = search needs
 
+-- src/event.rt:13:1
 same-length-8 : tie.Need-same-length-8
 same-length-8 c = search needs
 
+-- src/event.rt:13:1
 same-length-9 : tie.Need-same-length-9
 same-length-9 c = search needs
 
+-- src/event.rt:13:1
 same-length-10 : tie.Need-same-length-10
 same-length-10 c = search needs
 
+-- src/event.rt:13:1
 same-length-11 : tie.Need-same-length-11
 same-length-11 c = search needs
 
+-- src/event.rt:13:1
 same-length-12 : tie.Need-same-length-12
 same-length-12 c = search needs
 
+-- src/event.rt:13:1
 returns-2 : tie.Need-returns-2
-returns-2 c = taken-refused _ _ _ _ (sym (c .before .before .before .before .before .is-fit .ensures) ∙ not-false _ (c .before .before .before .before .if1 .left)) (sym (c .before .before .before .check .ensures) ∙ c .before .r .given .1)
-
-same-length-13 : tie.Need-same-length-13
-same-length-13 c = search needs
-
-same-length-14 : tie.Need-same-length-14
-same-length-14 c = search needs
-
-same-length-15 : tie.Need-same-length-15
-same-length-15 c = search needs
-
-same-length-16 : tie.Need-same-length-16
-same-length-16 c = search needs
-
-same-length-17 : tie.Need-same-length-17
-same-length-17 c = search needs
-
-same-length-18 : tie.Need-same-length-18
-same-length-18 c = search needs
-
-returns-3 : tie.Need-returns-3
-returns-3 c = taken-done _ _ _ _ (sym (c .before .before .before .before .before .before .before .before .before .before .before .before .before .before .before .before .before .before .before .before .is-fit .ensures) ∙ not-false _ (c .before .before .before .before .before .before .before .before .before .before .before .before .before .before .before .before .before .before .before .if1 .left)) (sym (c .before .before .before .before .before .before .before .before .before .before .before .before .before .before .before .before .before .before .check .ensures) ∙ c .before .before .before .before .before .before .before .before .before .before .before .before .before .before .before .before .enum-told .given .1) (c .before .before .before .before .before .before .before .before .before .act .ensures)
+returns-2 c = search needs
 
 pub take-event-spec : {M : Type 1} → statement M
 take-event-spec =
@@ -95,21 +82,11 @@ take-event-spec =
     same-length-5
     same-length-6
     returns
-    check-requires
-    enum-known-r
-    enum-told
-    act-requires
+    take-fit-requires
     same-length-7
     same-length-8
     same-length-9
     same-length-10
     same-length-11
     same-length-12
-    returns-2
-    same-length-13
-    same-length-14
-    same-length-15
-    same-length-16
-    same-length-17
-    same-length-18
-    returns-3)
+    returns-2)

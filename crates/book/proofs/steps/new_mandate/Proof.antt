@@ -1,7 +1,7 @@
 use mathlib.Core.Path.{refl}
 use Rattle.model.specs.Actions.{newMandate}
-use Rattle.book.proofs.event.new_mandate.Statement.{statement}
-use Rattle.book.proofs.event.new_mandate.Tie as tie
+use Rattle.book.proofs.steps.new_mandate.Statement.{statement}
+use Rattle.book.proofs.steps.new_mandate.Tie as tie
 
 returns : tie.Need-returns
 unfolding newMandate

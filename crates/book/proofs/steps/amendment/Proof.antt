@@ -1,6 +1,6 @@
 use borrow.Author.Tests.{eq-eqb, ne-eqb}
-use Rattle.book.proofs.event.amendment.Statement.{statement}
-use Rattle.book.proofs.event.amendment.Tie as tie
+use Rattle.book.proofs.steps.amendment.Statement.{statement}
+use Rattle.book.proofs.steps.amendment.Tie as tie
 
 returns : tie.Need-returns
 returns c = rw (eq-eqb _ _ (c .if1 .taken))

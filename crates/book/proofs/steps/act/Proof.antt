@@ -1,7 +1,7 @@
 use Rattle.book.proofs.Laws.Events.{action-treat, admitted-recorded, admitted-ready}
 use borrow.Author.Needs.{needs}
-use Rattle.book.proofs.event.act.Statement.{statement}
-use Rattle.book.proofs.event.act.Tie as tie
+use Rattle.book.proofs.steps.act.Statement.{statement}
+use Rattle.book.proofs.steps.act.Tie as tie
 
 record-event-requires : tie.Need-record-event-requires
 record-event-requires c κs = admitted-recorded _ _ (c .before .before .before .before .before .before .before .before .pre) (c .before .before .before .if1 .taken)

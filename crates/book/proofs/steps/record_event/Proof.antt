@@ -2,8 +2,8 @@ use mathlib.Core.Path.{_≡_}
 use Rattle.book.proofs.Laws.Events.{action-creditor, action-mandate, action-amend, action-cancel, action-collect}
 use native.Mathlib.Omega.{arith}
 use borrow.Author.Needs.{needs}
-use Rattle.book.proofs.event.record_event.Statement.{statement}
-use Rattle.book.proofs.event.record_event.Tie as tie
+use Rattle.book.proofs.steps.record_event.Statement.{statement}
+use Rattle.book.proofs.steps.record_event.Tie as tie
 
 add-creditor-requires : tie.Need-add-creditor-requires
 add-creditor-requires c κs = c .before .before .before .before .before .pre .creditor (c .before .match .keys1)
