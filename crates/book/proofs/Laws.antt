@@ -8,3 +8,4 @@ pub mod Treatments  -- events 6 to 10: verdicts are the model's answers and effe
 pub mod Ready  -- events 6 to 10: what fitness gives
 pub mod Events  -- the call for the ten events
 pub mod Queries  -- the answers to a position query
+pub mod Replay  -- how far a replay has come

@@ -5,6 +5,7 @@ pub mod event;
 mod headers;
 mod mandates;
 pub mod query;
+pub mod replay;
 mod steps;
 mod terms;
 mod treatments;

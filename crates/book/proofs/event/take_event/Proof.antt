@@ -6,10 +6,6 @@ use mathlib.Core.Path.{sym, _∙_}
 use borrow.Author.Needs.{needs}
 use Rattle.book.proofs.event.take_event.Statement.{statement}
 use Rattle.book.proofs.event.take_event.Tie as tie
-use Rattle.book.proofs.event.take_event.Reads as reads
-use Rattle.book.proofs.event.take_event.Lts as lts
-use Rattle.book.proofs.steps.take_fit.Reads as take-fit-reads
-use Rattle.tables.proofs.fitness.is_fit.Reads as is-fit-reads
 
 is-fit-requires : tie.Need-is-fit-requires
 is-fit-requires c κs = search needs

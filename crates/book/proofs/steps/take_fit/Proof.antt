@@ -5,10 +5,6 @@ use mathlib.Core.Path.{sym, _∙_}
 use borrow.Author.Needs.{needs}
 use Rattle.book.proofs.steps.take_fit.Statement.{statement}
 use Rattle.book.proofs.steps.take_fit.Tie as tie
-use Rattle.book.proofs.steps.take_fit.Reads as reads
-use Rattle.book.proofs.steps.take_fit.Lts as lts
-use Rattle.book.proofs.steps.act.Reads as act-reads
-use Rattle.events.proofs.limits.check.Reads as check-reads
 
 check-requires : tie.Need-check-requires
 check-requires c κs = search needs

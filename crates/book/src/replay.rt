@@ -1,0 +1,113 @@
+// Replay: a lent list of events on a ledger that is opened first: specs/Replay.
+ghost use mathlib.Core.Path.{_≡_};
+ghost use Prim.Native.Nat.{_/_, _<_};
+ghost use lib.ListN.{length};
+ghost use Rattle.tables.specs.Ledger.{ledger};
+ghost use Rattle.model.specs.Step.{run};
+ghost use Rattle.model.proofs.Laws.Invariant.{Safe};
+ghost use Rattle.book.specs.Replay.{eventCells, eventAt, eventsIn, Replayed};
+use crate::steps::take_fit;
+use events::Event;
+use tables::Header;
+use tables::OpenAnswer;
+use tables::OpenOutcome;
+use tables::opening::open_ledger;
+
+const EVENT_CELLS: usize = 9;
+
+// The event at a place of the list.
+fn event_at(events: &[u64], i: usize) -> Event
+    requires { ⌜ i < length (now events) / eventCells ⌝ }
+    ensures { λ r. ⌜ r ≡ eventAt (now (events .entry)) i ⌝ }
+{
+    let b = i * EVENT_CELLS;
+    Event {
+        kind: events[b],
+        date: events[b + 1],
+        mandate: events[b + 2],
+        a: events[b + 3],
+        b: events[b + 4],
+        c: events[b + 5],
+        amount: events[b + 6],
+        second: events[b + 7],
+        code: events[b + 8],
+    }
+}
+
+// The events one after the other. The tables were tested once, and every event keeps them fit.
+fn run_events(
+    header: Header,
+    events: &[u64],
+    mandates: &mut [u64],
+    collections: &mut [u64],
+    creditors: &mut [u64],
+    creditor_positions: &mut [i64],
+    debtor_positions: &mut [i64],
+    bank_positions: &mut [i64],
+) -> Header
+    requires { ⌜ Safe (ledger header (now mandates) (now collections) (now creditors) (now «creditor_positions») (now «debtor_positions») (now «bank_positions»)) ⌝ }
+    ensures { λ r. ⌜ (ledger r (now (mandates .exit)) (now (collections .exit)) (now (creditors .exit)) (now («creditor_positions» .exit)) (now («debtor_positions» .exit)) (now («bank_positions» .exit)))
+        ≡ run (ledger header (now (mandates .entry)) (now (collections .entry)) (now (creditors .entry)) (now («creditor_positions» .entry)) (now («debtor_positions» .entry)) (now («bank_positions» .entry))) (eventsIn (now (events .entry))) ⌝ }
+{
+    let n = events.len() / EVENT_CELLS;
+    let mut h = header;
+    let mut i: usize = 0;
+    while i < n {
+        let out = take_fit(
+            h,
+            event_at(events, i),
+            mandates,
+            collections,
+            creditors,
+            creditor_positions,
+            debtor_positions,
+            bank_positions,
+        );
+        h = out.header;
+        i += 1;
+    }
+    h
+}
+
+// Opens the ledger, and gives it every event of the list.
+pub fn replay(
+    header: Header,
+    events: &[u64],
+    mandates: &mut [u64],
+    collections: &mut [u64],
+    creditors: &mut [u64],
+    creditor_positions: &mut [i64],
+    debtor_positions: &mut [i64],
+    bank_positions: &mut [i64],
+) -> OpenOutcome
+    ensures { λ r. ⌜ Replayed (ledger header (now (mandates .entry)) (now (collections .entry)) (now (creditors .entry)) (now («creditor_positions» .entry)) (now («debtor_positions» .entry)) (now («bank_positions» .entry))) (eventsIn (now (events .entry))) r
+        (ledger (r .header) (now (mandates .exit)) (now (collections .exit)) (now (creditors .exit)) (now («creditor_positions» .exit)) (now («debtor_positions» .exit)) (now («bank_positions» .exit))) ⌝ }
+{
+    let start = open_ledger(
+        header,
+        mandates,
+        collections,
+        creditors,
+        creditor_positions,
+        debtor_positions,
+        bank_positions,
+    );
+    let answer = start.answer;
+    let OpenAnswer::Opened = answer else {
+        return start;
+    };
+    let last = run_events(
+        start.header,
+        events,
+        mandates,
+        collections,
+        creditors,
+        creditor_positions,
+        debtor_positions,
+        bank_positions,
+    );
+    OpenOutcome {
+        answer: OpenAnswer::Opened,
+        header: last,
+    }
+}
