@@ -1,15 +1,26 @@
 -- The table of document 01, "Dates and cents to prove": a row for each, what the definitions give beside what the paper says.
--- An answer is 0 where the date is in time, else the refusal's number.
+-- The refusals are answers of the rules on a small book: one mandate whose last kept due, and one collection whose settled day, is 20240402.
 use mathlib.Core.Path.{_≡_}
-use mathlib.Core.Bool.{cond}
-use mathlib.Core.List.{List, [], _∷_}
+use mathlib.Core.Bool.{true, false}
+use mathlib.Core.List.{List, [], _∷_, _++_}
 use Prim.Native.Nat.{ℕ}
+use lib.IntN.{ℤ, pos}
 use Rattle.calendar.specs.Easter.{easterOf}
-use Rattle.calendar.specs.Target.{firstBusinessDay}
-use Rattle.calendar.specs.Periods.{monthsAfter, periodEnd, isAfter}
-use Rattle.calendar.specs.declared.Period.{Period}
-use Rattle.calendar.specs.declared.DateAnswer.{DateAnswer}
-use Rattle.calendar.specs.declared.DateAnswer.the-variants.{Date, NoDate}
+use Rattle.calendar.specs.Periods.{monthsAfter}
+use Rattle.positions.specs.Compensation.{compensation as compensationFor}
+use Rattle.tables.specs.Ledger.{Ledger}
+use Rattle.tables.specs.Records.{mandateCells, collectionCells}
+use Rattle.tables.specs.declared.Mandate.{Mandate}
+use Rattle.tables.specs.declared.Standing.the-variants.{Live}
+use Rattle.tables.specs.declared.Collection.{Collection}
+use Rattle.tables.specs.declared.State.the-variants.{Settled}
+use Rattle.model.specs.Actions.{Way, Presentation}
+use Rattle.model.specs.Actions.Action.{Collect, Treat}
+use Rattle.model.specs.Actions.Treatment.{Undo}
+use Rattle.model.specs.Actions.Way.{ByReturn, ByRefund}
+use Rattle.model.specs.Deadlines.{dateIn, keptDue}
+use Rattle.model.specs.Checks.{ruled}
+use Rattle.model.specs.Step.{answerNumber}
 
 pub record Row : Type 0 where
   pub given : ℕ
@@ -18,45 +29,85 @@ pub record Row : Type 0 where
 abbrev pub row : ℕ → ℕ → Row
 row g p = record { given = g; paper = p }
 
--- a date that was worked out; no date is 0
-abbrev pub shown : DateAnswer → ℕ
-shown (Date x) = x
-shown NoDate = 0
+-- ---- the small book
 
--- the answer to an event of the date x where the last day is given: in time, or the refusal n
-abbrev pub judged : ℕ → ℕ → DateAnswer → ℕ
-judged n x last = cond (isAfter x last) n 0
+-- a recurrent mandate, FRST not due, on which 20240402 was the kept due last presented
+abbrev pub mandate : Mandate
+mandate = record {
+  number = 7;
+  creditor = 1;
+  debtor = 5;
+  bank = 2;
+  signed = 20240325;
+  code = 0;
+  standing = Live;
+  first = false;
+  presented = 20240402;
+}
 
-abbrev pub period : ℕ → ℕ → ℕ → Period
-period m d b = record { months = record { 0 = m }; days = record { 0 = d }; business = record { 0 = b } }
+-- settled on 20240402
+abbrev pub collection : Collection
+collection = record {
+  number = 70;
+  creditor = 1;
+  debtor = 5;
+  cbank = 1;
+  dbank = 2;
+  amount = 10000;
+  due = 20240402;
+  state = Settled 20240402;
+}
 
--- "Last days", from the settled day 20240402
-abbrev pub return : DateAnswer
-return = periodEnd (period 0 0 5) 20240402
+-- two rows of each table, of which one is used
+abbrev pub book : Ledger
+book = record {
+  latest = 20240402;
+  mandatesUsed = 1;
+  collectionsUsed = 1;
+  compensation = pos 0;
+  mandates = mandateCells mandate ++ mandateCells mandate;
+  collections = collectionCells collection ++ collectionCells collection;
+  creditors = 1 ∷ [];
+  creditorPositions = pos 0 ∷ [];
+  debtorPositions = pos 0 ∷ [];
+  bankPositions = pos 0 ∷ [];
+}
 
-abbrev pub authorised : DateAnswer
-authorised = periodEnd (period 0 56 2) 20240402
+-- ---- answers on it
 
-abbrev pub unauthorised : DateAnswer
-unauthorised = periodEnd (period 13 30 4) 20240402
+-- to an undoing on a date
+abbrev pub undone : Way → ℕ → ℕ
+undone way date = answerNumber (ruled book date (Treat 70 (Undo way)))
 
--- 36 months after the last due 20240402
-abbrev pub lapse : DateAnswer
-lapse = monthsAfter (record { 0 = 36 }) 20240402
+-- to a further collect of a date, with the due that it requests
+abbrev pub collected : ℕ → ℕ → ℕ
+collected date requested =
+    answerNumber
+    (ruled book date (Collect (record { mandate = 7; collection = 71; amount = 10000; requested = requested; code = 1 })))
+
+abbrev pub authorised : Way
+authorised = ByRefund 360 0
+
+abbrev pub unauthorised : Way
+unauthorised = ByRefund 360 1
+
+-- ---- the table
 
 unfoldable pub table : List Row
 table =
-    row (shown (easterOf 2024)) 20240331  -- Easter 2024
-    ∷ row (shown (firstBusinessDay 20240329)) 20240402  -- kept due
-    ∷ row (judged 17 20240409 return) 0  -- return, on the last day and after it
-    ∷ row (judged 17 20240410 return) 17
-    ∷ row (judged 17 20240530 authorised) 0  -- authorised refund
-    ∷ row (judged 17 20240531 authorised) 17
-    ∷ row (judged 17 20250605 unauthorised) 0  -- unauthorised refund
-    ∷ row (judged 17 20250606 unauthorised) 17
-    ∷ row (shown (monthsAfter (record { 0 = 13 }) 20250131)) 20260228  -- 13 months
-    ∷ row (judged 14 20270402 lapse) 0  -- lapse
-    ∷ row (judged 14 20270405 lapse) 14
+    row (dateIn (easterOf 2024)) 20240331  -- Easter 2024
+    ∷ row (keptDue 20240329) 20240402  -- kept due
+    ∷ row (undone ByReturn 20240409) 0  -- return, on its last day and after it
+    ∷ row (undone ByReturn 20240410) 17
+    ∷ row (undone authorised 20240530) 0  -- authorised refund
+    ∷ row (undone authorised 20240531) 17
+    ∷ row (undone unauthorised 20250605) 0  -- unauthorised refund
+    ∷ row (undone unauthorised 20250606) 17
+    ∷ row (dateIn (monthsAfter (record { 0 = 13 }) 20250131)) 20260228  -- 13 months
+    ∷ row (collected 20270325 20270402) 0  -- lapse: the kept due passes, or is too late
+    ∷ row (collected 20270402 20270405) 14
+    ∷ row (compensationFor 5000 360 1) 1  -- compensation in cents
+    ∷ row (compensationFor 5000 360 0) 0
     ∷ []
 
 -- every row of a table says what the paper says
