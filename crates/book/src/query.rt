@@ -4,6 +4,9 @@ ghost use mathlib.Core.List.{List};
 ghost use Prim.Native.Nat.{ℕ};
 ghost use Rattle.tables.specs.Ledger.{ledger};
 ghost use Rattle.model.specs.Step.{inQuery, figureOf, query};
+use common::BANKS;
+use common::CREDITORS;
+use common::DEBTORS;
 use model::QueryAnswer;
 use positions::posting::position_of;
 use refusals::Refusal;
@@ -11,12 +14,6 @@ use tables::Header;
 use tables::fitness::is_fit;
 
 // Numbers of creditors, debtors and banks.
-const CREDITORS: u64 = 256;
-
-const DEBTORS: u64 = 4096;
-
-const BANKS: u64 = 64;
-
 // Refusal 5: whether there is such a kind and such a number of it.
 fn in_query(kind: u64, number: u64) -> bool
     ensures { λ r. ⌜ r ≡ inQuery kind number ⌝ }

@@ -4,6 +4,7 @@ use Prim.Native.Nat.{ℕ}
 use mathlib.Core.Bool.{Bool, false, cond, _&&_}
 use mathlib.Core.List.{List, [], _∷_}
 use lib.Dec.{leb, eqb}
+use Rattle.common.specs.Limits.{creditorCount, debtorCount, bankCount, numberLimit, amountLimit, rateLimit}
 use Rattle.common.specs.Tests.{allOf}
 use Rattle.common.specs.Checks.{Check, check, judged}
 use Rattle.calendar.specs.Gregorian.{inRange}
@@ -36,31 +37,9 @@ within r x = leb (r .low) x && leb x (r .high)
 
 -- ---- the numbers of document 01
 
--- "Records"
-abbrev pub creditors : ℕ
-creditors = 256
-
-abbrev pub debtors : ℕ
-debtors = 4096
-
-abbrev pub banks : ℕ
-banks = 64
-
--- the largest number of a mandate or a collection
-abbrev pub lastNumber : ℕ
-lastNumber = 999999999
-
 -- "Ten events"
 abbrev pub lastKind : ℕ
 lastKind = 10
-
--- in cents; source 003
-abbrev pub lastAmount : ℕ
-lastAmount = 99999999999
-
--- in hundredths of a percent a year
-abbrev pub lastRate : ℕ
-lastRate = 9999
 
 -- ---- the ranges of the fields
 
@@ -72,23 +51,23 @@ abbrev pub unnamed : Range
 unnamed = upTo 0
 
 abbrev pub creditor : Range
-creditor = oneTo creditors
+creditor = oneTo creditorCount
 
 abbrev pub debtor : Range
-debtor = oneTo debtors
+debtor = oneTo debtorCount
 
 abbrev pub bank : Range
-bank = oneTo banks
+bank = oneTo bankCount
 
 -- a mandate or a collection
 abbrev pub number : Range
-number = oneTo lastNumber
+number = oneTo numberLimit
 
 abbrev pub cents : Range
-cents = oneTo lastAmount
+cents = oneTo amountLimit
 
 abbrev pub rate : Range
-rate = upTo lastRate
+rate = upTo rateLimit
 
 -- recurrent, one-off
 abbrev pub mandateCodes : Range

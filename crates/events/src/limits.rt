@@ -4,6 +4,12 @@ ghost use Prim.Native.Nat.{_<_};
 ghost use lib.ListN.{length, getD};
 ghost use Rattle.events.specs.Limits.{within, table, noRow, cellsOf, rowOf, secondFits, rowFits, fieldsFit, checked};
 use crate::Event;
+use common::AMOUNT_LIMIT;
+use common::BANKS;
+use common::CREDITORS;
+use common::DEBTORS;
+use common::NUMBER_LIMIT;
+use common::RATE_LIMIT;
 use refusals::Refusal;
 
 // A range of numbers, both ends included.
@@ -45,19 +51,7 @@ pub enum Checked {
     Refused(Refusal),
 }
 
-pub const CREDITORS: u64 = 256;
-
-pub const DEBTORS: u64 = 4096;
-
-pub const BANKS: u64 = 64;
-// The largest number of a mandate or a collection.
-pub const LAST_NUMBER: u64 = 999_999_999;
-
 pub const LAST_KIND: u64 = 10;
-// In cents.
-pub const LAST_AMOUNT: u64 = 99_999_999_999;
-// In hundredths of a percent a year.
-pub const LAST_RATE: u64 = 9_999;
 
 const KINDS: Range = Range {
     low: 1,
@@ -87,70 +81,70 @@ const TABLE: [Cells; ROWS] = [
     Cells {
         kind: 2,
         least: [0, 1, 1, 1, 1, 0],
-        most: [1, LAST_NUMBER, CREDITORS, DEBTORS, BANKS, 0],
+        most: [1, NUMBER_LIMIT, CREDITORS, DEBTORS, BANKS, 0],
         second: SecondDate::NotAfter,
     },
     // amend: a new debtor bank
     Cells {
         kind: 3,
         least: [0, 1, 0, 0, 1, 0],
-        most: [0, LAST_NUMBER, 0, 0, BANKS, 0],
+        most: [0, NUMBER_LIMIT, 0, 0, BANKS, 0],
         second: SecondDate::NoSecond,
     },
     // amend: a new creditor
     Cells {
         kind: 3,
         least: [1, 1, 1, 0, 0, 0],
-        most: [1, LAST_NUMBER, CREDITORS, 0, 0, 0],
+        most: [1, NUMBER_LIMIT, CREDITORS, 0, 0, 0],
         second: SecondDate::NoSecond,
     },
     // cancel
     Cells {
         kind: 4,
         least: [0, 1, 0, 0, 0, 0],
-        most: [0, LAST_NUMBER, 0, 0, 0, 0],
+        most: [0, NUMBER_LIMIT, 0, 0, 0, 0],
         second: SecondDate::NoSecond,
     },
     // collect
     Cells {
         kind: 5,
         least: [0, 1, 1, 0, 0, 1],
-        most: [3, LAST_NUMBER, LAST_NUMBER, 0, 0, LAST_AMOUNT],
+        most: [3, NUMBER_LIMIT, NUMBER_LIMIT, 0, 0, AMOUNT_LIMIT],
         second: SecondDate::Dated,
     },
     // settle
     Cells {
         kind: 6,
         least: [0, 0, 1, 0, 0, 0],
-        most: [0, 0, LAST_NUMBER, 0, 0, 0],
+        most: [0, 0, NUMBER_LIMIT, 0, 0, 0],
         second: SecondDate::NoSecond,
     },
     // reject
     Cells {
         kind: 7,
         least: [0, 0, 1, 0, 0, 0],
-        most: [0, 0, LAST_NUMBER, 0, 0, 0],
+        most: [0, 0, NUMBER_LIMIT, 0, 0, 0],
         second: SecondDate::NoSecond,
     },
     // return
     Cells {
         kind: 8,
         least: [0, 0, 1, 0, 0, 0],
-        most: [0, 0, LAST_NUMBER, 0, 0, 0],
+        most: [0, 0, NUMBER_LIMIT, 0, 0, 0],
         second: SecondDate::NoSecond,
     },
     // refund
     Cells {
         kind: 9,
         least: [0, 0, 1, 0, 0, 0],
-        most: [1, 0, LAST_NUMBER, LAST_RATE, 0, 0],
+        most: [1, 0, NUMBER_LIMIT, RATE_LIMIT, 0, 0],
         second: SecondDate::NoSecond,
     },
     // reversal
     Cells {
         kind: 10,
         least: [0, 0, 1, 0, 0, 0],
-        most: [0, 0, LAST_NUMBER, 0, 0, 0],
+        most: [0, 0, NUMBER_LIMIT, 0, 0, 0],
         second: SecondDate::NoSecond,
     },
 ];

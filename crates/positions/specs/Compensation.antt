@@ -5,6 +5,7 @@ use mathlib.Core.List.{[], _∷_}
 use Prim.Native.Nat.{ℕ, _+_, _*_, _/_, _≤_}
 use lib.Dec.{leb}
 use Rattle.common.specs.Tests.{allOf}
+pub use Rattle.common.specs.Limits.{amountLimit, rateLimit}
 use Rattle.positions.specs.declared.CompensationAnswer.{CompensationAnswer}
 use Rattle.positions.specs.declared.CompensationAnswer.the-variants.{Cents, OutsideLimits}
 
@@ -24,13 +25,6 @@ unfoldable pub compensation : ℕ → ℕ → ℕ → ℕ
 compensation amount rate days = halfUp (interest amount rate days) partsOfCent
 
 -- ---- for which values it is worked out
-
--- "Ten events": the amount of a collect and the rate of a refund
-abbrev pub amountLimit : ℕ
-amountLimit = 99999999999
-
-abbrev pub rateLimit : ℕ
-rateLimit = 9999
 
 -- more days than any refund in time can have
 abbrev pub daysLimit : ℕ

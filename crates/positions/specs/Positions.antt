@@ -7,6 +7,7 @@ use lib.Dec.{leb}
 use lib.IntN.{ℤ, pos, negℤ, natAbs, _+ℤ_}
 use lib.ListN.{length, getD, set, replicate}
 use lib.Signed.{leZ}
+pub use Rattle.common.specs.Limits.{positionLimit}
 
 -- ---- the entry of a number
 
@@ -45,10 +46,6 @@ abbrev pub zeros : ℕ → List ℤ
 zeros n = replicate n (pos 0)
 
 -- ---- the limit
-
--- "What is refused", 2: how far a position may lie on either side of 0
-abbrev pub positionLimit : ℕ
-positionLimit = 10000000000000000
 
 -- at most m on either side of 0
 abbrev pub within : ℕ → ℤ → Bool

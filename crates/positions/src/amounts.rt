@@ -1,10 +1,10 @@
 // The amounts that an event of money posts: specs/Postings.
 ghost use mathlib.Core.Path.{_≡_};
 ghost use Rattle.positions.specs.Answers.{settlementOf, reversedOf, refundedOf};
-use crate::AMOUNT_LIMIT;
 use crate::COMPENSATION_LIMIT;
 use crate::Postings;
 use crate::PostingsAnswer;
+use common::AMOUNT_LIMIT;
 
 // The postings of a settle.
 pub fn settlement(amount: u64) -> PostingsAnswer

@@ -2,12 +2,11 @@
 ghost use mathlib.Core.Path.{_≡_};
 ghost use Prim.Native.Nat.{_<_};
 ghost use Rattle.positions.specs.Compensation.{partsOfCent, interest as interestIn, interestBound, halfUp, InLimits, compensationOf};
-use crate::AMOUNT_LIMIT;
 use crate::CompensationAnswer;
+use common::AMOUNT_LIMIT;
+use common::RATE_LIMIT;
 
-// The largest rate, in hundredths of a percent a year, and the most days.
-const RATE_LIMIT: u64 = 9999;
-
+// The most days.
 const DAYS_LIMIT: u64 = 999;
 
 // The parts of a cent in which interest is worked out.

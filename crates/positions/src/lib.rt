@@ -4,9 +4,7 @@ pub mod amounts;
 pub mod compensation;
 pub mod posting;
 
-// The largest amount of a collection and the largest compensation, in cents.
-pub const AMOUNT_LIMIT: u64 = 99999999999;
-
+// The largest compensation, in cents.
 pub const COMPENSATION_LIMIT: u64 = 277472249997;
 
 // What became of a posting. Only Posted changed the table.

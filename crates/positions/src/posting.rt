@@ -8,9 +8,7 @@ ghost use mir.Val.{SFits};
 ghost use Rattle.positions.specs.Positions.{position, positionLimit, isEntry, within};
 ghost use Rattle.positions.specs.Answers.{capacity, postAnswer, afterPost, transferAnswer, afterTransfer};
 use crate::PostAnswer;
-
-// How far a position may lie on either side of 0, and how far what is added to one.
-const POSITION_LIMIT: i64 = 10000000000000000;
+use common::POSITION_LIMIT;
 
 const CAPACITY: i64 = 4000000000000000000;
 

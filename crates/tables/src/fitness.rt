@@ -9,22 +9,14 @@ use crate::Header;
 use crate::creditors::is_added;
 use crate::rows::STRIDE;
 use calendar::gregorian::in_range;
-
-const CREDITORS: u64 = 256;
-
-const DEBTORS: u64 = 4096;
-
-const BANKS: u64 = 64;
-
-const MANDATE_ROWS: usize = 4096;
-
-const COLLECTION_ROWS: usize = 16384;
-
-const NUMBERS: u64 = 999999999;
-
-const AMOUNTS: u64 = 99999999999;
-
-const POSITIONS: i64 = 10000000000000000;
+use common::AMOUNT_LIMIT;
+use common::BANKS;
+use common::COLLECTION_ROWS;
+use common::CREDITORS;
+use common::DEBTORS;
+use common::MANDATE_ROWS;
+use common::NUMBER_LIMIT;
+use common::POSITION_LIMIT;
 
 fn none_or_date(x: u64) -> bool
     ensures { λ r. ⌜ r ≡ noneOrDate x ⌝ }
@@ -35,13 +27,13 @@ fn none_or_date(x: u64) -> bool
 fn position_fit(z: i64) -> bool
     ensures { λ r. ⌜ r ≡ positionFit z ⌝ }
 {
-    (-POSITIONS <= z) & (z <= POSITIONS)
+    (-POSITION_LIMIT <= z) & (z <= POSITION_LIMIT)
 }
 
 fn compensation_fit(z: i64) -> bool
     ensures { λ r. ⌜ r ≡ compensationFit z ⌝ }
 {
-    (0 <= z) & (z <= POSITIONS)
+    (0 <= z) & (z <= POSITION_LIMIT)
 }
 
 fn is_zero(z: i64) -> bool
@@ -95,7 +87,7 @@ fn mandate_row_fit(creditors: &[u64], cells: &[u64], row: usize) -> bool
     let creditor = cells[b + 1];
     let debtor = cells[b + 2];
     let bank = cells[b + 3];
-    ((1 <= number) & (number <= NUMBERS))
+    ((1 <= number) & (number <= NUMBER_LIMIT))
         & ((1 <= creditor) & (creditor <= CREDITORS))
         & is_added(creditors, creditor)
         & ((1 <= debtor) & (debtor <= DEBTORS))
@@ -144,13 +136,13 @@ fn collection_row_fit(latest: u64, creditors: &[u64], cells: &[u64], row: usize)
     let dbank = cells[b + 4];
     let amount = cells[b + 5];
     let tag = cells[b + 7];
-    ((1 <= number) & (number <= NUMBERS))
+    ((1 <= number) & (number <= NUMBER_LIMIT))
         & ((1 <= creditor) & (creditor <= CREDITORS))
         & is_added(creditors, creditor)
         & ((1 <= debtor) & (debtor <= DEBTORS))
         & ((1 <= cbank) & (cbank <= BANKS))
         & ((1 <= dbank) & (dbank <= BANKS))
-        & ((1 <= amount) & (amount <= AMOUNTS))
+        & ((1 <= amount) & (amount <= AMOUNT_LIMIT))
         & in_range(cells[b + 6])
         & (tag <= 5)
         & day_fit(latest, tag, cells[b + 8])
