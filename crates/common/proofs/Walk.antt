@@ -1,5 +1,5 @@
 -- Laws of specs/Walk. Names: F-hit, F-miss, F-end are the steps of a loop that walks from i up to n; F-same: two tests that
--- agree give one answer. To cite besides: `allFrom-at`, `allFrom-made`, and `firstFrom-cases`, from which all else of a
+-- agree give one answer. To cite besides: `allFrom-at`, `allFrom-made`, and `firstFrom-cases` (`cases-from`), from which all else of a
 -- search follows. Assumes nothing.
 use mathlib.Core.Path.{_≡_, refl}
 use mathlib.Core.Bool.{Bool, true, false, cond}
@@ -76,7 +76,7 @@ module _ {A : Type 0} (t : ℕ → Bool) (hit : ℕ → A) (miss : A) where
   unfolding firstFrom
   firstFrom-end i n h = rw (none-left i n h)
 
-  cases-from :
+  pub cases-from :
       (P : A → Type 0) (i left : ℕ)
       → ((k : ℕ) → i ≤ k → k < i + left → t k ≡ true → ((j : ℕ) → i ≤ j → j < k → t j ≡ false) → P (hit k))
       → (((j : ℕ) → i ≤ j → j < i + left → t j ≡ false) → P miss) → P (firstFrom t hit miss i left)
