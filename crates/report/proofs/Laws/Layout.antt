@@ -1,6 +1,7 @@
 -- Laws of specs/Layout. To cite, of a field: `signedField-blank` (without a sign it is the input's field), `signedField-digits`
 -- (the sign directly before the digits); of the lines: `length-answerLine`, `length-positionLine`; of a buffer: `length-pasted`,
--- `take-pasted` (the bytes before stay), `take-written`, `pasted-pasted` (one line behind the other). Assumes nothing.
+-- `take-pasted` and `drop-written` (what stands before and behind stays), `take-line`, `pasted-pasted` (one line behind the
+-- other). The rest serves the functions of src/layout.rt. Assumes nothing.
 use mathlib.Core.Path.{_≡_, refl, sym, _∙_, ap}
 use mathlib.Core.Bool.{Bool, true, false, cond, _&&_}
 use mathlib.Core.List.{List, [], _∷_, _++_, append-assoc}
@@ -199,7 +200,11 @@ module _ (at : ℕ) (s out : List ℕ) where
       ap (take (at + length s)) (sym (append-assoc (take at out) s (drop (at + length s) out)))
       ∙ take-at (take at out ++ s) (drop (at + length s) out) (at + length s) (length-append (take at out) s ∙ omega arith)
 
-  -- and all behind
+  -- the same by the bytes' number
+  pub take-line : (n : ℕ) → at ≤ length out → length s ≡ n → take (at + n) (pasted at s out) ≡ take at out ++ s
+  take-line n h e = ap (λ (k : ℕ). take (at + k) (pasted at s out)) (sym e) ∙ take-written h
+
+  -- and all behind stays
   pub drop-written : at ≤ length out → drop (at + length s) (pasted at s out) ≡ drop (at + length s) out
   drop-written h =
       let a = length-take-le at out h in
@@ -214,7 +219,8 @@ module _ (at : ℕ) (s out : List ℕ) where
       ∙ ap (drop (length t)) (drop-written h)
       ∙ drop-drop (length t) (at + length s) out in
       let n : at + length (s ++ t) ≡ at + length s + length t = omega (arith, length-append s t) in
-      rw (take-written h, d, n, append-assoc, append-assoc)
+      let r = drop (at + length s + length t) out in
+      rw (take-written h, d, n, append-assoc (take at out) s (t ++ r), append-assoc s t r)
 
   -- the same by the bytes' number, for a buffer that is written step by step
   pub pasted-next : (n : ℕ) (t now next : List ℕ)
