@@ -1,6 +1,6 @@
 -- Laws of specs/Walk. Names: F-hit, F-miss, F-end are the steps of a loop that walks from i up to n; F-same: two tests that
--- agree give one answer. To cite besides: `allFrom-at`, `allFrom-made`, and `firstFrom-cases`, from which all else of a
--- search follows. Assumes nothing.
+-- agree give one answer. To cite besides: `allFrom-at`, `allFrom-made`, and `firstFrom-cases`, from any number on
+-- `cases-from`, from which all else of a search follows. Assumes nothing.
 use mathlib.Core.Path.{_≡_, refl}
 use mathlib.Core.Bool.{Bool, true, false, cond}
 use mathlib.Core.Logic.{⊎-elim}
@@ -76,7 +76,8 @@ module _ {A : Type 0} (t : ℕ → Bool) (hit : ℕ → A) (miss : A) where
   unfolding firstFrom
   firstFrom-end i n h = rw (none-left i n h)
 
-  cases-from :
+  -- what holds of a hit at the first number from i on that passes, and of a miss where none passes, holds of the search
+  pub cases-from :
       (P : A → Type 0) (i left : ℕ)
       → ((k : ℕ) → i ≤ k → k < i + left → t k ≡ true → ((j : ℕ) → i ≤ j → j < k → t j ≡ false) → P (hit k))
       → (((j : ℕ) → i ≤ j → j < i + left → t j ≡ false) → P miss) → P (firstFrom t hit miss i left)
@@ -93,7 +94,7 @@ module _ {A : Type 0} (t : ℕ → Bool) (hit : ℕ → A) (miss : A) where
       (λ below. none (λ j lj hj. first j lj (λ l. below j (omega arith) (omega arith))))))
       (true-or-false (t i))
 
-  -- what holds of a hit at the first number that passes, and of a miss where none passes, holds of the search
+  -- the same from 0 on
   pub firstFrom-cases :
       (P : A → Type 0) (n : ℕ) → ((k : ℕ) → k < n → t k ≡ true → ((j : ℕ) → j < k → t j ≡ false) → P (hit k))
       → (((j : ℕ) → j < n → t j ≡ false) → P miss) → P (firstFrom t hit miss 0 n)

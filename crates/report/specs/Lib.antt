@@ -1,0 +1,3 @@
+-- Document 01, "The text line", of the program `ledger`, in definitions; read in this order.
+pub mod Cut  -- where a line of the input ends
+pub mod Layout  -- the lines that the program writes

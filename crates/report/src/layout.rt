@@ -1,0 +1,140 @@
+// The lines that the program writes: specs/Layout.
+ghost use mathlib.Core.Path.{_≡_};
+ghost use mathlib.Core.Bool.{true, cond};
+ghost use Prim.Native.Nat.{_+_, _≤_};
+ghost use lib.Dec.{leb};
+ghost use lib.IntN.{natAbs};
+ghost use lib.ListN.{length};
+ghost use Rattle.positions.specs.Positions.{positionLimit, within};
+ghost use Rattle.events.specs.Line.{lastDigit, pasted};
+ghost use Rattle.report.specs.Layout.{signOf, signedField, answerLength, answerLine, answerFits, positionLength, positionLine, positionFits, placed};
+use positions::posting::in_limit;
+
+// Whether a line was written.
+pub enum Placed {
+    Written,
+    NoRoom,
+}
+
+// The bytes of an answer line and of a position line.
+const ANSWER: usize = 10;
+
+const POSITION: usize = 27;
+
+// The largest number of a line or a party, the largest answer and the largest kind.
+const LAST_NUMBER: u64 = 999_999;
+
+const LAST_ANSWER: u64 = 999;
+
+const LAST_KIND: u64 = 99;
+
+const LINE_END: u8 = 10;
+
+const BLANK: u8 = 32;
+
+const MINUS: u8 = 45;
+
+// Whether some bytes have room from a place on in a buffer of a length.
+fn has_room(long: usize, at: usize, bytes: usize) -> bool
+    ensures { λ r. ⌜ r ≡ leb (at + bytes) long ⌝ }
+{
+    if long < bytes {
+        return false;
+    }
+    at <= long - bytes
+}
+
+// The byte of the last digit of v.
+fn last_digit(v: u64) -> u8
+    ensures { λ r. ⌜ r ≡ lastDigit v ⌝ }
+{
+    (48 + v % 10) as u8
+}
+
+// What stands before the digits of a number of cents.
+fn sign(cents: i64) -> u8
+    ensures { λ r. ⌜ r ≡ signOf cents ⌝ }
+{
+    if cents < 0 { MINUS } else { BLANK }
+}
+
+// How far a number of cents lies from 0.
+fn size(cents: i64) -> u64
+    requires { ⌜ within positionLimit cents ≡ true ⌝ }
+    ensures { λ r. ⌜ r ≡ natAbs cents ⌝ }
+{
+    if cents < 0 {
+        return (-cents) as u64;
+    }
+    cents as u64
+}
+
+// Writes v to the right edge of the field of a width at a place, the sign before its digits, and blanks before that.
+fn put(out: &mut [u8], at: usize, width: usize, sign: u8, v: u64)
+    requires { ⌜ (1 ≤ width) × (at + width ≤ length (now out)) ⌝ }
+    ensures { λ _. ⌜ now (out .exit) ≡ pasted at (signedField width sign v) (now (out .entry)) ⌝ }
+{
+    let mut i = at + width - 1;
+    let mut rest = v / 10;
+    let mut fill = sign;
+    out[i] = last_digit(v);
+    while at < i {
+        i -= 1;
+        if rest == 0 {
+            out[i] = fill;
+            fill = BLANK;
+        } else {
+            out[i] = last_digit(rest);
+            rest = rest / 10;
+        }
+    }
+}
+
+// Writes the answer line of a line's number to a place that has room for it.
+fn put_answer(out: &mut [u8], at: usize, number: u64, answer: u64)
+    requires { ⌜ at + answerLength ≤ length (now out) ⌝ }
+    ensures { λ _. ⌜ now (out .exit) ≡ pasted at (answerLine number answer) (now (out .entry)) ⌝ }
+{
+    put(out, at, 6, BLANK, number);
+    put(out, at + 6, 3, BLANK, answer);
+    out[at + 9] = LINE_END;
+}
+
+// Writes the position line of a party to a place that has room for it.
+fn put_position(out: &mut [u8], at: usize, kind: u64, number: u64, cents: i64)
+    requires { ⌜ (at + positionLength ≤ length (now out)) × (within positionLimit cents ≡ true) ⌝ }
+    ensures { λ _. ⌜ now (out .exit) ≡ pasted at (positionLine kind number cents) (now (out .entry)) ⌝ }
+{
+    put(out, at, 2, BLANK, kind);
+    put(out, at + 2, 6, BLANK, number);
+    put(out, at + 8, 18, sign(cents), size(cents));
+    out[at + 26] = LINE_END;
+}
+
+// Writes the answer line of a line's number, or writes nothing.
+pub fn answer_line(out: &mut [u8], at: usize, number: u64, answer: u64) -> Placed
+    ensures answer { λ r. ⌜ r ≡ placed (answerFits at number answer (now (out .entry))) ⌝ }
+    ensures bytes { λ _. ⌜ now (out .exit) ≡ cond (answerFits at number answer (now (out .entry))) (pasted at (answerLine number answer) (now (out .entry))) (now (out .entry)) ⌝ }
+{
+    if has_room(out.len(), at, ANSWER) & (number <= LAST_NUMBER) & (answer <= LAST_ANSWER) {
+        put_answer(out, at, number, answer);
+        return Placed::Written;
+    }
+    Placed::NoRoom
+}
+
+// Writes the position line of a party, or writes nothing.
+pub fn position_line(out: &mut [u8], at: usize, kind: u64, number: u64, cents: i64) -> Placed
+    ensures answer { λ r. ⌜ r ≡ placed (positionFits at kind number cents (now (out .entry))) ⌝ }
+    ensures bytes { λ _. ⌜ now (out .exit) ≡ cond (positionFits at kind number cents (now (out .entry))) (pasted at (positionLine kind number cents) (now (out .entry))) (now (out .entry)) ⌝ }
+{
+    if has_room(out.len(), at, POSITION)
+        & (kind <= LAST_KIND)
+        & (number <= LAST_NUMBER)
+        & in_limit(cents)
+    {
+        put_position(out, at, kind, number, cents);
+        return Placed::Written;
+    }
+    Placed::NoRoom
+}
