@@ -13,7 +13,6 @@ use refusals::Refusal;
 use tables::Header;
 use tables::fitness::is_fit;
 
-// Numbers of creditors, debtors and banks.
 // Refusal 5: whether there is such a kind and such a number of it.
 fn in_query(kind: u64, number: u64) -> bool
     ensures { λ r. ⌜ r ≡ inQuery kind number ⌝ }
