@@ -362,7 +362,7 @@ fn tell_kind(
     }
 }
 
-// Writes every position that is not 0, and last the total compensation.
+// Writes every position that is not 0: creditors, debtors, banks.
 fn tell_positions(
     header: Header,
     mandates: &[u64],
@@ -405,6 +405,18 @@ fn tell_positions(
         debtor_positions,
         bank_positions,
     );
+}
+
+// Writes the total compensation.
+fn tell_total(
+    header: Header,
+    mandates: &[u64],
+    collections: &[u64],
+    creditors: &[u64],
+    creditor_positions: &[i64],
+    debtor_positions: &[i64],
+    bank_positions: &[i64],
+) {
     let total = position(
         header,
         4,
@@ -449,6 +461,15 @@ fn run(
     );
     if p.heard {
         tell_positions(
+            p.header,
+            mandates,
+            collections,
+            creditors,
+            creditor_positions,
+            debtor_positions,
+            bank_positions,
+        );
+        tell_total(
             p.header,
             mandates,
             collections,

@@ -1,0 +1,64 @@
+#!/usr/bin/env python3
+"""streams.py LEDGER TWIN: compares both programs on inputs that no case file should hold (the limit of lines, lines
+of megabytes), feeds the ledger byte by byte, and sees that it ends when nobody reads on. A difference fails."""
+import subprocess
+import sys
+import time
+from pathlib import Path
+
+TOP = Path(__file__).resolve().parent.parent
+EXAMPLE = (TOP / "crates/ledger/stdin").read_bytes()
+ANSWERS = (TOP / "crates/ledger/stdout").read_bytes()
+LINES = 999_999
+
+STREAMS = {
+    "lines past the limit": b"\n" * (LINES + 10),
+    "an unended piece as the last line": b"\n" * (LINES - 1) + b"abc",
+    "an unended piece past the limit": b"\n" * LINES + b"abc",
+    "events across the limit": b"\n" * (LINES - 3) + EXAMPLE,
+    "a line of 10 megabytes": b"x" * 10_000_000 + b"\n" + EXAMPLE,
+    "an unended piece of 5 megabytes": EXAMPLE + b"9" * 5_000_000,
+    "a sound line without its end": EXAMPLE[: 75 * 3 - 1],
+}
+
+
+def output(program, data):
+    done = subprocess.run([program], input=data, capture_output=True, timeout=60, check=True)
+    return done.stdout
+
+
+def byte_by_byte(program):
+    run = subprocess.Popen([program], stdin=subprocess.PIPE, stdout=subprocess.PIPE)
+    for at in range(len(EXAMPLE)):
+        run.stdin.write(EXAMPLE[at : at + 1])
+        run.stdin.flush()
+        time.sleep(0.0005)
+    run.stdin.close()
+    answers = run.stdout.read()
+    return run.wait(timeout=60) == 0 and answers == ANSWERS
+
+
+def end_unheard(program):
+    """Fails by the time limit if the program goes on."""
+    run = subprocess.Popen([program], stdin=subprocess.PIPE, stdout=subprocess.PIPE)
+    run.stdout.close()
+    try:
+        run.stdin.write(b"\n" * 2 * LINES)
+        run.stdin.close()
+    except BrokenPipeError:
+        pass
+    run.wait(timeout=60)
+
+
+def main():
+    ledger, twin = sys.argv[1:]
+    wrong = [name for name, data in STREAMS.items() if output(ledger, data) != output(twin, data)]
+    if not byte_by_byte(ledger):
+        wrong.append("byte by byte")
+    end_unheard(ledger)
+    if wrong:
+        sys.exit("streams: differ: " + "; ".join(wrong))
+    print(f"streams: {len(STREAMS) + 2} agree")
+
+
+main()
