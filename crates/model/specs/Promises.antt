@@ -8,7 +8,8 @@ use lib.Dec.{eqb}
 use lib.IntN.{ℤ, pos, _+ℤ_}
 use Rattle.events.specs.declared.Event.{Event}
 use Rattle.tables.specs.Limits.{creditorCount, debtorCount, bankCount}
-use Rattle.tables.specs.Ledger.{Ledger}
+use Rattle.tables.specs.declared.Header.{Header}
+use Rattle.tables.specs.Ledger.{Ledger, ledger}
 use Rattle.tables.specs.Fitness.{sizesFit}
 use Rattle.tables.specs.Opening.{opened}
 use Rattle.tables.specs.declared.Standing.the-variants.{Live}
@@ -19,6 +20,7 @@ use Rattle.model.specs.Actions.Action.{AddCreditor, AddMandate, ChangeMa
 use Rattle.model.specs.Actions.Treatment.{Settle, Reject, Undo}
 use Rattle.model.specs.Deadlines.{keptDue, inTime, lapsedFor}
 use Rattle.model.specs.Lookups.Known.{known}
+use Rattle.model.specs.Checks.{ruled}
 use Rattle.model.specs.Step.{inQuery, query, run, Entry, history}
 use Rattle.model.specs.Journal.{NotedMandate, NotedCollection, journal, figureIn}
 
@@ -115,3 +117,11 @@ Demand3 =
     (t : Ledger) → sizesFit t ≡ true  -- any lent tables that an accepted opening was called on
     → (es : List Event)  -- any list of events, accepted and refused ones
     → Kept (opened t) es
+
+-- ---- what a collection is treated by
+
+-- events 6 to 10 ask nothing of a mandate: with any other mandate rows, cancelled ones too, the rules answer the same
+abbrev pub MandatesNotAsked : Type 0
+MandatesNotAsked =
+    (h : Header) (m m′ c k : List ℕ) (cp dp bp : List ℤ) (date n : ℕ) (t : Treatment)
+    → ruled (ledger h m c k cp dp bp) date (Treat n t) ≡ ruled (ledger h m′ c k cp dp bp) date (Treat n t)

@@ -44,7 +44,7 @@ use Rattle.model.specs.Checks.{standsLive, ruled}
 use Rattle.model.specs.Effects.{effect}
 use Rattle.model.specs.Step.{isAccepted, thenRuled, answer, afterAnswer, after, inQuery, figureOf, query, run, Entry, entry, history}
 use Rattle.model.specs.Journal.{Journal, journalFrom, journal, figureIn}
-use Rattle.model.specs.Promises.{answered, sumTo, sumOf, isUndo, isEnd, isSettle, times, UndoneInTime, CollectedLive, Kept, Demand3}
+use Rattle.model.specs.Promises.{answered, sumTo, sumOf, isUndo, isEnd, isSettle, times, UndoneInTime, CollectedLive, Kept, Demand3, MandatesNotAsked}
 use Rattle.model.proofs.Laws.Sound.{sound-event, Passed, passed}
 use Rattle.model.proofs.Laws.Effects.{mandate-there, collection-there}
 use Rattle.model.proofs.Laws.Agree.{notedOf, notedKnown, endsOf, undosOf, settlesOf, inKnown, Agrees}
@@ -351,3 +351,9 @@ module _ (l : Ledger) (es : List Event) (r : RunKeeps l [] es) where
 
 pub demand3 : Demand3
 demand3 t z es = kept (opened t) es (run-keeps es (opened t) [] (opening-past t z))
+
+-- ---- events 6 to 10 ask nothing of a mandate
+
+pub mandates-not-asked : MandatesNotAsked
+unfolding ruled collectionOf
+mandates-not-asked h m m′ c k cp dp bp date n t = refl
