@@ -1,0 +1,33 @@
+-- What is promised of a run, as statements. proofs/Laws/Run has the proofs. Assumes nothing.
+use mathlib.Core.Path.{_≡_}
+use mathlib.Core.List.{List, [], _∷_, _++_}
+use mathlib.Core.Logic.{_≢_}
+use Prim.Native.Nat.{ℕ, _<_}
+use lib.ListN.{length, getD}
+use Rattle.events.specs.Line.{lineEnd}
+use Rattle.tables.specs.Ledger.{Ledger}
+use Rattle.report.specs.Run.{Run, runAt, ended, toldEnded, takeText, toldText}
+
+-- no byte of it ends a line
+abbrev pub Endless : List ℕ → Type 0
+Endless text = (j : ℕ) → j < length text → getD text j 0 ≢ lineEnd
+
+-- ---- lines: a text that ends where its only line ends is answered as the reader and the ledger answer that line, whole
+
+pub record Answered (l : Ledger) (n : ℕ) (line : List ℕ) : Type 0 where
+  pub after : takeText (runAt l n []) (line ++ (lineEnd ∷ [])) ≡ ended (runAt l n []) (line ++ (lineEnd ∷ []))
+  pub told : toldText (runAt l n []) (line ++ (lineEnd ∷ [])) ≡ toldEnded (runAt l n []) (line ++ (lineEnd ∷ []))
+
+abbrev pub LineByLine : Type 0
+LineByLine = (l : Ledger) (n : ℕ) (line : List ℕ) → Endless line → Answered l n line
+
+-- ---- pieces: an input that comes in two pieces, of which the bytes of a line that has not ended are put before the second,
+-- is answered as if it came at once: no line is lost and none is answered twice
+
+pub record SameAtOnce (l : Ledger) (n : ℕ) (first second : List ℕ) (r : Run) : Type 0 where
+  pub after : takeText (runAt l n []) (first ++ second) ≡ takeText (runAt (r .book) (r .lines) []) (r .begun ++ second)
+  pub told : toldText (runAt l n []) (first ++ second) ≡ toldText (runAt l n []) first ++ toldText (runAt (r .book) (r .lines) []) (r .begun ++ second)
+
+abbrev pub PieceByPiece : Type 0
+PieceByPiece =
+    (l : Ledger) (n : ℕ) (first second : List ℕ) → SameAtOnce l n first second (takeText (runAt l n []) first)

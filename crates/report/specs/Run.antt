@@ -1,0 +1,106 @@
+-- The run of the program `ledger`: the bytes of its input one after the other, and what it writes. Document 01, "The text line".
+-- What the pieces that an input comes in and the lines of a text have to do with it: specs/Promises. Assumes nothing.
+use mathlib.Core.Bool.{cond}
+use mathlib.Core.List.{List, [], _∷_, _++_}
+use Prim.Native.Nat.{ℕ, zero, suc, _+_}
+use lib.Dec.{eqb, ltb}
+use lib.IntN.{ℤ, pos, negsuc}
+use lib.ListN.{take, length}
+use Rattle.events.specs.declared.line.LineAnswer.{LineAnswer}
+use Rattle.events.specs.declared.line.LineAnswer.the-variants as lines
+use Rattle.events.specs.Line.{lineEnd, lineLength, readLine}
+use Rattle.tables.specs.Limits.{creditorCount, debtorCount, bankCount}
+use Rattle.tables.specs.Ledger.{Ledger}
+use Rattle.model.specs.declared.Answer.{Answer}
+use Rattle.model.specs.declared.Answer.the-variants.{Refused}
+use Rattle.model.specs.Step.{answerNumber, answer, after, figureOf}
+use Rattle.report.specs.Layout.{lastNumber, answerLine, positionLine}
+
+-- ---- a line: what the reader refuses, or what the ledger answers to the event
+
+abbrev pub answerTo : Ledger → LineAnswer → Answer
+answerTo l (lines.Taken e) = answer l e
+answerTo l (lines.Refused r) = Refused r
+
+abbrev pub afterLine : Ledger → LineAnswer → Ledger
+afterLine l (lines.Taken e) = after l e
+afterLine l (lines.Refused r) = l
+
+-- ---- how far a run is
+
+pub record Run : Type 0 where
+  pub book : Ledger
+  -- the lines answered
+  pub lines : ℕ
+  -- the bytes of a line that has not ended
+  pub begun : List ℕ
+
+abbrev pub runAt : Ledger → ℕ → List ℕ → Run
+runAt l n line = record { book = l; lines = n; begun = line }
+
+-- a line longer than a sound one is bad whatever it goes on with, so one byte more is kept of it
+abbrev pub keptLength : ℕ
+keptLength = lineLength + 1
+
+abbrev pub kept : List ℕ → List ℕ
+kept line = take keptLength line
+
+-- a line has ended; no more than 999,999 are answered
+abbrev pub ended : Run → List ℕ → Run
+ended r line =
+    cond (ltb (r .lines) lastNumber)
+    (runAt (afterLine (r .book) (readLine line)) (r .lines + 1) [])
+    (runAt (r .book) (r .lines) [])
+
+abbrev pub toldEnded : Run → List ℕ → List ℕ
+toldEnded r line =
+    cond (ltb (r .lines) lastNumber)
+    (answerLine (r .lines + 1) (answerNumber (answerTo (r .book) (readLine line))))
+    []
+
+-- ---- the input, byte by byte: how far the run is then, and what was written on the way
+
+abbrev pub takeByte : Run → ℕ → Run
+takeByte r b =
+    cond (eqb b lineEnd)
+    (ended r (kept (r .begun ++ (b ∷ []))))
+    (runAt (r .book) (r .lines) (kept (r .begun ++ (b ∷ []))))
+
+abbrev pub toldByte : Run → ℕ → List ℕ
+toldByte r b = cond (eqb b lineEnd) (toldEnded r (kept (r .begun ++ (b ∷ [])))) []
+
+unfoldable pub takeText : Run → List ℕ → Run
+takeText r [] = r
+takeText r (b ∷ bs) = takeText (takeByte r b) bs
+
+unfoldable pub toldText : Run → List ℕ → List ℕ
+toldText r [] = []
+toldText r (b ∷ bs) = toldByte r b ++ toldText (takeByte r b) bs
+
+-- the end of the input ends a line that has begun
+abbrev pub endText : Run → Run
+endText r = cond (eqb (length (r .begun)) 0) r (ended r (r .begun))
+
+abbrev pub toldEnd : Run → List ℕ
+toldEnd r = cond (eqb (length (r .begun)) 0) [] (toldEnded r (r .begun))
+
+-- ---- the positions
+
+-- a position of 0 is not written
+abbrev pub toldPosition : ℕ → ℕ → ℤ → List ℕ
+toldPosition kind number (pos zero) = []
+toldPosition kind number (pos (suc n)) = positionLine kind number (pos (suc n))
+toldPosition kind number (negsuc n) = positionLine kind number (negsuc n)
+
+-- those of a kind, from number 1 to n
+unfoldable pub toldKind : Ledger → ℕ → ℕ → List ℕ
+toldKind l kind zero = []
+toldKind l kind (suc n) = toldKind l kind n ++ toldPosition kind (suc n) (figureOf l kind (suc n))
+
+-- creditors, debtors, banks, and total compensation, be it 0
+unfoldable pub toldPositions : Ledger → List ℕ
+toldPositions l =
+    toldKind l 1 creditorCount
+    ++ toldKind l 2 debtorCount
+    ++ toldKind l 3 bankCount
+    ++ positionLine 4 0 (l .compensation)
