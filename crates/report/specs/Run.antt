@@ -1,20 +1,22 @@
 -- The run of the program `ledger`: the bytes of its input one after the other, and what it writes. Document 01, "The text line".
 -- What the pieces that an input comes in and the lines of a text have to do with it: specs/Promises. Assumes nothing.
-use mathlib.Core.Bool.{cond}
+use mathlib.Core.Bool.{Bool, cond, _&&_}
 use mathlib.Core.List.{List, [], _∷_, _++_}
-use Prim.Native.Nat.{ℕ, zero, suc, _+_}
-use lib.Dec.{eqb, ltb}
+use Prim.Native.Nat.{ℕ, zero, suc, _+_, _*_}
+use lib.Dec.{eqb, ltb, leb}
 use lib.IntN.{ℤ, pos, negsuc}
 use lib.ListN.{take, length}
 use Rattle.events.specs.declared.line.LineAnswer.{LineAnswer}
 use Rattle.events.specs.declared.line.LineAnswer.the-variants as lines
 use Rattle.events.specs.Line.{lineEnd, lineLength, readLine}
+use Rattle.positions.specs.Positions.{position}
 use Rattle.tables.specs.Limits.{creditorCount, debtorCount, bankCount}
 use Rattle.tables.specs.Ledger.{Ledger}
+use Rattle.tables.specs.Fitness.{fit}
 use Rattle.model.specs.declared.Answer.{Answer}
 use Rattle.model.specs.declared.Answer.the-variants.{Refused}
 use Rattle.model.specs.Step.{answerNumber, answer, after, figureOf}
-use Rattle.report.specs.Layout.{lastNumber, answerLine, positionLine}
+use Rattle.report.specs.Layout.{lastNumber, answerLine, positionLine, positionLength}
 
 -- ---- a line: what the reader refuses, or what the ledger answers to the event
 
@@ -104,3 +106,17 @@ toldPositions l =
     ++ toldKind l 2 debtorCount
     ++ toldKind l 3 bankCount
     ++ positionLine 4 0 (l .compensation)
+
+-- the bytes that a listing takes at most: a line for each party and bank, and one for the total
+abbrev pub listingRoom : ℕ
+listingRoom = (creditorCount + debtorCount + bankCount + 1) * positionLength
+
+-- a listing is written where lent memory is fit and the buffer has room for the longest one; else it is refused
+unfoldable pub listed : Ledger → List ℕ → Bool
+listed l out = fit l && leb listingRoom (length out)
+
+-- the lines of one table of positions, from number 1 to n; those of a kind are the lines of its table
+unfoldable pub toldTable : ℕ → List ℤ → ℕ → List ℕ
+toldTable kind positions zero = []
+toldTable kind positions (suc n) =
+    toldTable kind positions n ++ toldPosition kind (suc n) (position positions (suc n))

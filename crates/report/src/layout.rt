@@ -19,7 +19,7 @@ pub enum Placed {
 // The bytes of an answer line and of a position line.
 const ANSWER: usize = 10;
 
-const POSITION: usize = 27;
+pub const POSITION: usize = 27;
 
 // The largest number of a line or a party, the largest answer and the largest kind.
 const LAST_NUMBER: u64 = 999_999;

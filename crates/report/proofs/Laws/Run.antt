@@ -1,5 +1,5 @@
 -- Laws of specs/Run. To cite: `line-by-line`, `piece-by-piece` (specs/Promises); for a run over the lines of a text `Answering` with
--- `answering-start`, `answering-line`, `answering-rest`; for a listing `toldKind-more`. Assumes nothing.
+-- `answering-start`, `answering-line`, `answering-rest`. Of a listing: Laws/Listing. Assumes nothing.
 use mathlib.Core.Path.{_≡_, refl, sym, ap, _∙_}
 use mathlib.Core.Bool.{Bool, true, false, cond}
 use mathlib.Core.Logic.{⊎-elim, _≢_}

@@ -1,0 +1,264 @@
+// A text of events: the lines of the program's input, answered one after the other: specs/Text.
+ghost use mathlib.Core.Path.{_≡_};
+ghost use mathlib.Core.List.{[]};
+ghost use Prim.Native.Nat.{_≤_, min};
+ghost use lib.ListN.{length, take, drop};
+ghost use Rattle.events.specs.Line.{pasted};
+ghost use Rattle.tables.specs.Ledger.{ledger};
+ghost use Rattle.model.specs.Step.{answerNumber};
+ghost use Rattle.report.specs.Run.{runAt, keptLength, kept, endText, toldEnd};
+ghost use Rattle.book.specs.Events.{Taken};
+ghost use Rattle.book.specs.Text.{Sound, Known, LineTaken, Ready, LineTold, Roomy, LinesTold, Told, pieceFits, pieceRun, pieceTold, textAfter, endFits};
+use crate::Outcome;
+use crate::event::take_event;
+use crate::steps::act;
+use events::Event;
+use events::line::LineAnswer;
+use model::Answer;
+use refusals::Refusal;
+use refusals::number_of;
+use report::cut::LineEnd;
+use report::cut::line_end;
+use report::layout::answer_line;
+use tables::Header;
+
+// The most lines that are answered, the bytes of an answer, and those that are kept of a line that has begun.
+const LINES: u64 = 999_999;
+
+const ANSWER: usize = 10;
+
+const KEPT: usize = 76;
+
+// The header, the lines answered and the bytes written so far.
+struct Progress {
+    header: Header,
+    lines: u64,
+    told: usize,
+}
+
+// The same, and where the first line begins that has not ended.
+struct Lines {
+    header: Header,
+    lines: u64,
+    told: usize,
+    at: usize,
+}
+
+// What a call leaves: the answer to it, the header, the lines answered so far, the bytes of the line that has begun, and
+// the bytes written.
+pub struct Piece {
+    pub answer: Answer,
+    pub header: Header,
+    pub lines: u64,
+    pub begun: usize,
+    pub told: usize,
+}
+
+// The number of an answer: 0 where the event is accepted.
+fn answer_number(answer: Answer) -> u64
+    ensures { λ r. ⌜ r ≡ answerNumber answer ⌝ }
+{
+    match answer {
+        Answer::Accepted => 0,
+        Answer::Refused(r) => number_of(r),
+    }
+}
+
+// An event within its limits; memory that is known to be safe is not tested again.
+fn take_sound(
+    known: bool,
+    header: Header,
+    e: Event,
+    mandates: &mut [u64],
+    collections: &mut [u64],
+    creditors: &mut [u64],
+    creditor_positions: &mut [i64],
+    debtor_positions: &mut [i64],
+    bank_positions: &mut [i64],
+) -> Outcome
+    requires { ⌜ Sound known (ledger header (now mandates) (now collections) (now creditors) (now «creditor_positions») (now «debtor_positions») (now «bank_positions»)) e ⌝ }
+    ensures { λ r. ⌜ Taken (ledger header (now (mandates .entry)) (now (collections .entry)) (now (creditors .entry)) (now («creditor_positions» .entry)) (now («debtor_positions» .entry)) (now («bank_positions» .entry))) e r
+        (ledger (r .header) (now (mandates .exit)) (now (collections .exit)) (now (creditors .exit)) (now («creditor_positions» .exit)) (now («debtor_positions» .exit)) (now («bank_positions» .exit))) ⌝ }
+{
+    if known {
+        return act(
+            header,
+            e,
+            mandates,
+            collections,
+            creditors,
+            creditor_positions,
+            debtor_positions,
+            bank_positions,
+        );
+    }
+    take_event(
+        header,
+        e,
+        mandates,
+        collections,
+        creditors,
+        creditor_positions,
+        debtor_positions,
+        bank_positions,
+    )
+}
+
+// A line: what the reader refuses, or what the ledger answers.
+fn take_line(
+    known: bool,
+    header: Header,
+    line: &[u8],
+    mandates: &mut [u64],
+    collections: &mut [u64],
+    creditors: &mut [u64],
+    creditor_positions: &mut [i64],
+    debtor_positions: &mut [i64],
+    bank_positions: &mut [i64],
+) -> Outcome
+    requires { ⌜ Known known (ledger header (now mandates) (now collections) (now creditors) (now «creditor_positions») (now «debtor_positions») (now «bank_positions»)) ⌝ }
+    ensures { λ r. ⌜ LineTaken (ledger header (now (mandates .entry)) (now (collections .entry)) (now (creditors .entry)) (now («creditor_positions» .entry)) (now («debtor_positions» .entry)) (now («bank_positions» .entry))) (now (line .entry)) r
+        (ledger (r .header) (now (mandates .exit)) (now (collections .exit)) (now (creditors .exit)) (now («creditor_positions» .exit)) (now («debtor_positions» .exit)) (now («bank_positions» .exit))) ⌝ }
+{
+    match events::line::read(line) {
+        LineAnswer::Refused(r) => Outcome {
+            answer: Answer::Refused(r),
+            header: header,
+        },
+        LineAnswer::Taken(e) => take_sound(
+            known,
+            header,
+            e,
+            mandates,
+            collections,
+            creditors,
+            creditor_positions,
+            debtor_positions,
+            bank_positions,
+        ),
+    }
+}
+
+// Answers a line that has ended, unless 999,999 were answered before.
+fn end_line(
+    known: bool,
+    p: Progress,
+    line: &[u8],
+    out: &mut [u8],
+    mandates: &mut [u64],
+    collections: &mut [u64],
+    creditors: &mut [u64],
+    creditor_positions: &mut [i64],
+    debtor_positions: &mut [i64],
+    bank_positions: &mut [i64],
+) -> Progress
+    requires { ⌜ Ready known (ledger (p .header) (now mandates) (now collections) (now creditors) (now «creditor_positions») (now «debtor_positions») (now «bank_positions»)) (p .told) (now out) ⌝ }
+    ensures { λ r. ⌜ LineTold (ledger (p .header) (now (mandates .entry)) (now (collections .entry)) (now (creditors .entry)) (now («creditor_positions» .entry)) (now («debtor_positions» .entry)) (now («bank_positions» .entry))) p (now (line .entry)) (now (out .entry)) r
+        (ledger (r .header) (now (mandates .exit)) (now (collections .exit)) (now (creditors .exit)) (now («creditor_positions» .exit)) (now («debtor_positions» .exit)) (now («bank_positions» .exit))) (now (out .exit)) ⌝ }
+{
+    if p.lines >= LINES {
+        return p;
+    }
+    let header = p.header;
+    let told = p.told;
+    let number = p.lines + 1;
+    let done = take_line(
+        known,
+        header,
+        line,
+        mandates,
+        collections,
+        creditors,
+        creditor_positions,
+        debtor_positions,
+        bank_positions,
+    );
+    let answer = done.answer;
+    let after = done.header;
+    answer_line(out, told, number, answer_number(answer));
+    Progress {
+        header: after,
+        lines: number,
+        told: told + ANSWER,
+    }
+}
+
+// Answers the lines of a text that have ended.
+fn take_lines(
+    known: bool,
+    header: Header,
+    lines: u64,
+    text: &[u8],
+    out: &mut [u8],
+    mandates: &mut [u64],
+    collections: &mut [u64],
+    creditors: &mut [u64],
+    creditor_positions: &mut [i64],
+    debtor_positions: &mut [i64],
+    bank_positions: &mut [i64],
+) -> Lines
+    requires { ⌜ Roomy known (ledger header (now mandates) (now collections) (now creditors) (now «creditor_positions») (now «debtor_positions») (now «bank_positions»)) (now text) (now out) ⌝ }
+    ensures { λ r. ⌜ LinesTold (runAt (ledger header (now (mandates .entry)) (now (collections .entry)) (now (creditors .entry)) (now («creditor_positions» .entry)) (now («debtor_positions» .entry)) (now («bank_positions» .entry))) lines []) (now (text .entry)) (now (out .entry)) r
+        (ledger (r .header) (now (mandates .exit)) (now (collections .exit)) (now (creditors .exit)) (now («creditor_positions» .exit)) (now («debtor_positions» .exit)) (now («bank_positions» .exit))) (now (out .exit)) ⌝ }
+{
+    let mut p = Progress {
+        header: header,
+        lines: lines,
+        told: 0,
+    };
+    let mut at: usize = 0;
+    while at < text.len() {
+        let LineEnd::At(k) = line_end(text, at) else {
+            let last = p.header;
+            return Lines {
+                header: last,
+                lines: p.lines,
+                told: p.told,
+                at: at,
+            };
+        };
+        let next = k + 1;
+        p = end_line(
+            known,
+            p,
+            &text[at..next],
+            out,
+            mandates,
+            collections,
+            creditors,
+            creditor_positions,
+            debtor_positions,
+            bank_positions,
+        );
+        at = next;
+    }
+    let last = p.header;
+    Lines {
+        header: last,
+        lines: p.lines,
+        told: p.told,
+        at: at,
+    }
+}
+
+// The bytes that are kept of a line that has begun.
+fn kept_length(long: usize) -> usize
+    ensures { λ r. ⌜ r ≡ min long keptLength ⌝ }
+{
+    if long < KEPT { long } else { KEPT }
+}
+
+// Puts what is kept of the line that begins at a place to the front of the text, and gives its length.
+fn keep_begun(text: &mut [u8], at: usize, filled: usize) -> usize
+    requires { ⌜ (at ≤ filled) × (filled ≤ length (now text)) ⌝ }
+    ensures length { λ r. ⌜ r ≡ length (kept (drop at (take filled (now (text .entry))))) ⌝ }
+    ensures text { λ _. ⌜ now (text .exit) ≡ pasted 0 (kept (drop at (take filled (now (text .entry))))) (now (text .entry)) ⌝ }
+{
+    let n = kept_length(filled - at);
+    let mut i: usize = 0;
+    while i < n {
+        text[i] = text[at + i];
+        i += 1;
+    }
+    n
+}

@@ -1,0 +1,394 @@
+-- Laws of the listing of specs/Run. To cite: `toldKind-more`, `toldKind-table` (a kind's lines are those of its table),
+-- `length-toldKind`, `length-toldPositions`, and `listing-front` (what a caller finds in the buffer). The rest
+-- serves the functions of src/listing.rt: `Written`, how far a buffer is written. Assumes nothing.
+use mathlib.Core.Path.{_≡_, refl, sym, ap, _∙_}
+use mathlib.Core.Bool.{Bool, true, _&&_}
+use mathlib.Core.Logic.{⊎-elim, _≢_}
+use mathlib.Core.List.{List, [], _++_}
+use Prim.Native.Nat.{ℕ, zero, suc, _+_, _*_, _≤_, _<_}
+use native.Mathlib.Nat.{add-zero}
+use native.Mathlib.Numerals.{add-one}
+use native.Mathlib.Omega.{arith}
+use borrow.Author.Tests.{leb-true, le-leb, ltb-true, ltb-false}
+use lib.Dec.{leb, ltb}
+use lib.IntN.{ℤ, pos, negsuc, natAbs}
+use lib.ListN.{length, take, drop, getD, length-append, take-append-drop, List·getD-eq-default}
+use lib.Seq.{take-at}
+use mir.Syntax.{w64}
+use mir.Val.{toZ, ofZ, SFits}
+use mir.Facts.{toZ-ofZ}
+use Rattle.common.proofs.Tests.{and-halves, true-or-false}
+use Rattle.positions.specs.Positions.{positionLimit, position, Within}
+use Rattle.positions.proofs.Laws.Integers.{size-within}
+use Rattle.events.specs.Line.{pasted}
+use Rattle.tables.specs.Limits.{creditorCount, debtorCount, bankCount}
+use Rattle.tables.specs.Ledger.{Ledger}
+use Rattle.tables.specs.Fitness.{fit, positionFit}
+use Rattle.tables.proofs.Laws.Fitness.{Fit, fit-facts, position-facts, compensation-facts, creditorsFit-at, positionsFit-at}
+use Rattle.model.specs.Step.{figureOf}
+use Rattle.report.specs.Layout.{positionLine, positionLength, lastKind, lastNumber, positionFits}
+use Rattle.report.specs.Run.{toldPosition, toldKind, toldPositions, toldTable, listingRoom, listed}
+use Rattle.report.proofs.Laws.Layout.{length-positionLine, length-pasted, pasted-next, positionFits-is}
+
+-- ---- one position
+
+module _ (kind number : ℕ) where
+  pub toldPosition-zero : (z : ℤ) → z ≡ pos 0 → toldPosition kind number z ≡ []
+  toldPosition-zero z e = ap (toldPosition kind number) e
+
+  pub toldPosition-line : (z : ℤ) → z ≢ pos 0 → toldPosition kind number z ≡ positionLine kind number z
+  toldPosition-line (pos zero) n = absurd (n refl)
+  toldPosition-line (pos (suc k)) n = refl
+  toldPosition-line (negsuc k) n = refl
+
+  pub length-toldPosition : (z : ℤ) → length (toldPosition kind number z) ≤ positionLength
+  length-toldPosition (pos zero) = omega arith
+  length-toldPosition (pos (suc k)) = omega (arith, length-positionLine kind number (pos (suc k)))
+  length-toldPosition (negsuc k) = omega (arith, length-positionLine kind number (negsuc k))
+
+-- ---- one table
+
+module _ (kind : ℕ) (positions : List ℤ) where
+  pub toldTable-more :
+      (n : ℕ) → toldTable kind positions (n + 1) ≡ toldTable kind positions n ++ toldPosition kind (n + 1) (getD positions n (pos 0))
+  unfolding toldTable position
+  toldTable-more n = rw (add-one)
+
+  -- a line for each number at most
+  pub length-toldTable : (n : ℕ) → length (toldTable kind positions n) ≤ n * positionLength
+  unfolding toldTable
+  length-toldTable zero = omega arith
+  length-toldTable (suc n) =
+      let told = toldPosition kind (suc n) (position positions (suc n)) in
+      omega (
+        arith,
+        length-append (toldTable kind positions n) told,
+        length-toldTable n,
+        length-toldPosition kind (suc n) (position positions (suc n)),
+      )
+
+-- ---- one kind
+
+module _ (l : Ledger) (kind : ℕ) where
+  -- the next number
+  pub toldKind-more :
+      (n : ℕ) → toldKind l kind (n + 1) ≡ toldKind l kind n ++ toldPosition kind (n + 1) (figureOf l kind (n + 1))
+  unfolding toldKind
+  toldKind-more n = rw (add-one)
+
+  pub toldKind-table :
+      (positions : List ℤ) → ((number : ℕ) → figureOf l kind number ≡ position positions number)
+      → (n : ℕ) → toldKind l kind n ≡ toldTable kind positions n
+  unfolding toldKind toldTable
+  toldKind-table positions f zero = refl
+  toldKind-table positions f (suc n) =
+      ap (λ (t : List ℕ). t ++ toldPosition kind (suc n) (figureOf l kind (suc n))) (toldKind-table positions f n)
+      ∙ ap (λ (z : ℤ). toldTable kind positions n ++ toldPosition kind (suc n) z) (f (suc n))
+
+  -- a line for each number at most
+  pub length-toldKind : (n : ℕ) → length (toldKind l kind n) ≤ n * positionLength
+  unfolding toldKind
+  length-toldKind zero = omega arith
+  length-toldKind (suc n) =
+      omega (
+        arith,
+        length-append (toldKind l kind n) (toldPosition kind (suc n) (figureOf l kind (suc n))),
+        length-toldKind n,
+        length-toldPosition kind (suc n) (figureOf l kind (suc n)),
+      )
+
+-- ---- a buffer written so far
+
+-- from a place on the bytes s are written, and `next` is the place behind them
+pub record Written (at : ℕ) (out s : List ℕ) (next : ℕ) (now : List ℕ) : Type 0 where
+  pub place : next ≡ at + length s
+  pub bytes : now ≡ pasted at s out
+
+module _ (at : ℕ) (out : List ℕ) where
+  pub written-none : Written at out [] at out
+  written-none =
+      record {
+        place = omega arith;
+        bytes = sym (ap (λ (k : ℕ). take at out ++ drop k out) (add-zero at) ∙ take-append-drop at out);
+      }
+
+  module _ (s : List ℕ) (next : ℕ) (now : List ℕ) (w : Written at out s next now) (h : at + length s ≤ length out) where
+    pub written-length : length now ≡ length out
+    written-length = ap length (w .bytes) ∙ length-pasted at s out h
+
+    -- one more line, or several
+    pub written-more : (t last : List ℕ) (r : ℕ) → r ≡ next + length t → last ≡ pasted next t now → Written at out (s ++ t) r last
+    written-more t last r p q =
+        record {
+          place = omega (arith, p, w .place, length-append s t);
+          bytes = pasted-next at s out (length s) t now last (omega arith) refl (w .bytes) (q ∙ ap (λ (k : ℕ). pasted k t now) (w .place));
+        }
+
+-- ---- a position of 0, and another
+
+-- as the code tests its 64 bits
+pub zero-bits : (z : ℤ) → SFits w64 z → ofZ w64 z ≡ 0 → z ≡ pos 0
+zero-bits z f e = sym (toZ-ofZ f) ∙ ap (toZ w64) e
+
+pub other-bits : (z : ℤ) → ofZ w64 z ≢ 0 → z ≢ pos 0
+other-bits z n e = n (ap (ofZ w64) e)
+
+module _ (at kind number : ℕ) (cents : ℤ) (out : List ℕ) where
+  pub zero-written : cents ≡ pos 0 → Written at out (toldPosition kind number cents) at out
+  zero-written e = rw (toldPosition-zero kind number cents e) (written-none at out)
+
+  pub line-written : (last : List ℕ)
+      → cents ≢ pos 0
+      → last ≡ pasted at (positionLine kind number cents) out
+      → Written at out (toldPosition kind number cents) (at + positionLength) last
+  line-written last n e =
+      rw (toldPosition-line kind number cents n)
+      (record { place = omega (arith, length-positionLine kind number cents); bytes = e })
+
+  pub positionFits-made :
+      at + positionLength ≤ length out → kind ≤ lastKind → number ≤ lastNumber → natAbs cents ≤ positionLimit
+      → positionFits at kind number cents out ≡ true
+  positionFits-made r k n z =
+      sym
+      (positionFits-is at kind number cents out true true
+      (sym (le-leb (at + positionLength) (length out) r))
+      (sym (size-within positionLimit cents z)))
+      ∙ rw (le-leb kind lastKind k, le-leb number lastNumber n)
+
+-- ---- a table written number by number
+
+-- there is room for all of its lines, and each can be written
+abbrev pub Ready : ℕ → ℕ → List ℤ → List ℕ → Type 0
+Ready at kind positions out =
+    (at + length positions * positionLength ≤ length out)
+    × (kind ≤ lastKind)
+    × (length positions ≤ lastNumber)
+    × Within positionLimit positions
+
+pub table-start : (at kind : ℕ) (positions : List ℤ) (out : List ℕ) → Written at out (toldTable kind positions 0) at out
+unfolding toldTable
+table-start at kind positions out = written-none at out
+
+module _ (at kind : ℕ) (positions : List ℤ) (out : List ℕ) (ready : Ready at kind positions out) where
+  pub table-inside : (i : ℕ) → i ≤ length positions → at + length (toldTable kind positions i) ≤ length out
+  table-inside i h = omega (arith, length-toldTable kind positions i, ready .0)
+
+  module _ (i next : ℕ) (now : List ℕ) (w : Written at out (toldTable kind positions i) next now) where
+    pub table-fits : i < length positions → positionFits next kind (i + 1) (getD positions i (pos 0)) now ≡ true
+    unfolding position
+    table-fits h =
+        let room : next + positionLength ≤ length now =
+        omega (
+          arith,
+          w .place,
+          length-toldTable kind positions i,
+          ready .0,
+          written-length at out (toldTable kind positions i) next now w (table-inside i (omega arith)),
+        ) in
+        let number : i + 1 ≤ lastNumber = omega (arith, ready .2) in
+        positionFits-made next kind (i + 1) (getD positions i (pos 0)) now room (ready .1) number (ready .3 (suc i))
+
+    pub table-more : (r : ℕ) (last : List ℕ)
+        → i < length positions
+        → r ≡ next + length (toldPosition kind (i + 1) (getD positions i (pos 0)))
+        → last ≡ pasted next (toldPosition kind (i + 1) (getD positions i (pos 0))) now
+        → Written at out (toldTable kind positions (i + 1)) r last
+    table-more r last h p q =
+        rw (toldTable-more kind positions i)
+        (written-more at out (toldTable kind positions i) next now w (table-inside i (omega arith)) _ last r p q)
+
+-- ---- the whole listing
+
+-- the entries of a table are within the limit
+table-within : (positions : List ℤ)
+    → ((i : ℕ) → i < length positions → positionFit (getD positions i (pos 0)) ≡ true)
+    → Within positionLimit positions
+unfolding position
+table-within positions f zero = omega arith
+table-within positions f (suc i) =
+    ⊎-elim
+    (λ t. position-facts (getD positions i (pos 0)) (f i (ltb-true i (length positions) t)))
+    (λ t. rw (List·getD-eq-default positions (pos 0) (ltb-false i (length positions) t)) (omega arith))
+    (true-or-false (ltb i (length positions)))
+
+-- all lines of a table
+abbrev pub toldAll : ℕ → List ℤ → List ℕ
+toldAll kind positions = toldTable kind positions (length positions)
+
+-- what is written before the second kind, the third, and the total
+module _ (l : Ledger) where
+  abbrev pub firstKind : List ℕ
+  firstKind = toldAll 1 (l .creditorPositions)
+
+  abbrev pub twoKinds : List ℕ
+  twoKinds = firstKind ++ toldAll 2 (l .debtorPositions)
+
+  abbrev pub threeKinds : List ℕ
+  threeKinds = twoKinds ++ toldAll 3 (l .bankPositions)
+
+  -- all lines of a kind
+  all-kind :
+      (kind : ℕ) (positions : List ℤ) (count : ℕ) → length positions ≡ count
+      → ((number : ℕ) → figureOf l kind number ≡ position positions number)
+      → toldAll kind positions ≡ toldKind l kind count
+  all-kind kind positions count e f = ap (toldTable kind positions) e ∙ sym (toldKind-table l kind positions f count)
+
+module _ (l : Ledger) (out : List ℕ) where
+  pub listed-is : (memory room : Bool) → memory ≡ fit l → room ≡ leb listingRoom (length out) → memory && room ≡ listed l out
+  unfolding listed
+  listed-is memory room e f = rw (e, f)
+
+  module _ (h : listed l out ≡ true) where
+    pub listing-room : listingRoom ≤ length out
+    unfolding listed
+    listing-room = leb-true listingRoom (length out) (and-halves (fit l) h .1)
+
+    pub listing-fit : Fit l
+    unfolding listed
+    listing-fit = fit-facts l (and-halves (fit l) h .0)
+
+    creditors-size : length (l .creditorPositions) ≡ creditorCount
+    creditors-size = listing-fit .sizes .creditor-positions
+
+    debtors-size : length (l .debtorPositions) ≡ debtorCount
+    debtors-size = listing-fit .sizes .debtor-positions
+
+    banks-size : length (l .bankPositions) ≡ bankCount
+    banks-size = listing-fit .sizes .bank-positions
+
+    first-length : length (firstKind l) ≤ creditorCount * positionLength
+    first-length = omega (arith, length-toldTable 1 (l .creditorPositions) (length (l .creditorPositions)), creditors-size)
+
+    two-length : length (twoKinds l) ≤ (creditorCount + debtorCount) * positionLength
+    two-length =
+        omega (
+          arith,
+          first-length,
+          length-append (firstKind l) (toldAll 2 (l .debtorPositions)),
+          length-toldTable 2 (l .debtorPositions) (length (l .debtorPositions)),
+          debtors-size,
+        )
+
+    three-length : length (threeKinds l) ≤ (creditorCount + debtorCount + bankCount) * positionLength
+    three-length =
+        omega (
+          arith,
+          two-length,
+          length-append (twoKinds l) (toldAll 3 (l .bankPositions)),
+          length-toldTable 3 (l .bankPositions) (length (l .bankPositions)),
+          banks-size,
+        )
+
+    pub creditors-ready : Ready 0 1 (l .creditorPositions) out
+    creditors-ready = (
+      omega (arith, creditors-size, listing-room),
+      omega arith,
+      omega (arith, creditors-size),
+      table-within (l .creditorPositions)
+          (λ i k.
+          creditorsFit-at (l .creditors) (l .creditorPositions) (listing-fit .creditors) i
+          (omega (arith, k, creditors-size, listing-fit .sizes .creditor-table)) .position-fit),
+    )
+
+    first-inside : 0 + length (firstKind l) ≤ length out
+    first-inside = omega (arith, first-length, listing-room)
+
+    two-inside : 0 + length (twoKinds l) ≤ length out
+    two-inside = omega (arith, two-length, listing-room)
+
+    three-inside : 0 + length (threeKinds l) ≤ length out
+    three-inside = omega (arith, three-length, listing-room)
+
+    pub debtors-ready : (next : ℕ) (now : List ℕ) → Written 0 out (firstKind l) next now → Ready next 2 (l .debtorPositions) now
+    debtors-ready next now w = (
+      omega (arith, debtors-size, listing-room, first-length, w .place, written-length 0 out (firstKind l) next now w first-inside),
+      omega arith,
+      omega (arith, debtors-size),
+      table-within (l .debtorPositions) (positionsFit-at (l .debtorPositions) (listing-fit .debtors)),
+    )
+
+    pub debtors-written : (next : ℕ) (now : List ℕ) (r : ℕ) (last : List ℕ)
+        → Written 0 out (firstKind l) next now
+        → r ≡ next + length (toldAll 2 (l .debtorPositions))
+        → last ≡ pasted next (toldAll 2 (l .debtorPositions)) now
+        → Written 0 out (twoKinds l) r last
+    debtors-written next now r last w p q = written-more 0 out (firstKind l) next now w first-inside _ last r p q
+
+    pub banks-ready : (next : ℕ) (now : List ℕ) → Written 0 out (twoKinds l) next now → Ready next 3 (l .bankPositions) now
+    banks-ready next now w = (
+      omega (arith, banks-size, listing-room, two-length, w .place, written-length 0 out (twoKinds l) next now w two-inside),
+      omega arith,
+      omega (arith, banks-size),
+      table-within (l .bankPositions) (positionsFit-at (l .bankPositions) (listing-fit .banks)),
+    )
+
+    pub banks-written : (next : ℕ) (now : List ℕ) (r : ℕ) (last : List ℕ)
+        → Written 0 out (twoKinds l) next now
+        → r ≡ next + length (toldAll 3 (l .bankPositions))
+        → last ≡ pasted next (toldAll 3 (l .bankPositions)) now
+        → Written 0 out (threeKinds l) r last
+    banks-written next now r last w p q = written-more 0 out (twoKinds l) next now w two-inside _ last r p q
+
+    -- the kinds and the total are the listing
+    toldPositions-is : threeKinds l ++ positionLine 4 0 (l .compensation) ≡ toldPositions l
+    unfolding toldPositions
+    toldPositions-is =
+        rw (
+          all-kind l 1 (l .creditorPositions) creditorCount creditors-size (λ number. refl),
+          all-kind l 2 (l .debtorPositions) debtorCount debtors-size (λ number. refl),
+          all-kind l 3 (l .bankPositions) bankCount banks-size (λ number. refl),
+        )
+
+    pub cents-size : natAbs (l .compensation) ≤ positionLimit
+    cents-size = compensation-facts (l .compensation) (listing-fit .header .cents) .to
+
+    -- the total, be it 0
+    module _ (next : ℕ) (now : List ℕ) (w : Written 0 out (threeKinds l) next now) where
+      same : length now ≡ length out
+      same = written-length 0 out (threeKinds l) next now w three-inside
+
+      pub total-room : next + positionLength ≤ length out
+      total-room = omega (arith, listing-room, three-length, w .place)
+
+      pub total-fits : positionFits next 4 0 (l .compensation) now ≡ true
+      total-fits =
+          positionFits-made next 4 0 (l .compensation) now
+          (omega (arith, total-room, same))
+          (omega arith)
+          (omega arith)
+          cents-size
+
+      pub listing-written : (last : List ℕ)
+          → last ≡ pasted next (positionLine 4 0 (l .compensation)) now
+          → Written 0 out (toldPositions l) (next + positionLength) last
+      listing-written last e =
+          let line = positionLine 4 0 (l .compensation) in
+          rw (← toldPositions-is)
+          (written-more 0 out (threeKinds l) next now w three-inside line last (next + positionLength)
+          (omega (arith, length-positionLine 4 0 (l .compensation)))
+          e)
+
+-- ---- what a caller finds
+
+-- the longest listing has room
+pub length-toldPositions : (l : Ledger) → length (toldPositions l) ≤ listingRoom
+unfolding toldPositions
+length-toldPositions l =
+    let a = toldKind l 1 creditorCount in
+    let b = toldKind l 2 debtorCount in
+    let c = toldKind l 3 bankCount in
+    let t = positionLine 4 0 (l .compensation) in
+    omega (
+      arith,
+      length-toldKind l 1 creditorCount,
+      length-toldKind l 2 debtorCount,
+      length-toldKind l 3 bankCount,
+      length-positionLine 4 0 (l .compensation),
+      length-append a b,
+      length-append (a ++ b) c,
+      length-append (a ++ b ++ c) t,
+    )
+
+-- what was written stands at the front of the buffer
+pub listing-front : (told out : List ℕ) → take (length told) (pasted 0 told out) ≡ told
+listing-front told out = take-at told (drop (0 + length told) out) (length told) refl
