@@ -9,3 +9,4 @@ pub mod Ready  -- events 6 to 10: what fitness gives
 pub mod Events  -- the call for the ten events
 pub mod Queries  -- the answers to a position query
 pub mod Replay  -- how far a replay has come
+pub mod Text  -- a text of events, line by line

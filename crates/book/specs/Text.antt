@@ -91,6 +91,14 @@ pieceTold l lines filled text = toldText (runAt l lines []) (take filled text)
 abbrev pub textAfter : Bool → Run → List ℕ → List ℕ
 textAfter fits s text = cond fits (pasted 0 (s .begun) text) text
 
+pub record PieceTaken (l : Ledger) (lines filled : ℕ) (text out : List ℕ) (r : Piece) (l' : Ledger) (text' out' : List ℕ) : Type 0 where
+  pub told : Told (pieceFits filled text out) l lines filled out (pieceRun l lines filled text) (pieceTold l lines filled text) r l' out'
+  pub text-is : text' ≡ textAfter (pieceFits filled text out) (pieceRun l lines filled text) text
+
 -- the end of the input, with the bytes of a line that has begun
 abbrev pub endFits : ℕ → List ℕ → List ℕ → Bool
 endFits filled text out = leb filled (length text) && leb answerLength (length out)
+
+abbrev pub EndTaken : Ledger → ℕ → ℕ → List ℕ → List ℕ → Piece → Ledger → List ℕ → Type 0
+EndTaken l lines filled text out r l' out' =
+    Told (endFits filled text out) l lines filled out (endText (runAt l lines (take filled text))) (toldEnd (runAt l lines (take filled text))) r l' out'

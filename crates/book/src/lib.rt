@@ -1,4 +1,4 @@
-// The ledger: the call for the ten events, the position query, and replay. Every contract is an equation with the model.
+// The ledger: the calls for the ten events and for a text of them, the position query, and replay. Every contract is an equation with the model.
 mod collect;
 mod creditors;
 pub mod event;
@@ -8,6 +8,7 @@ pub mod query;
 pub mod replay;
 mod steps;
 mod terms;
+pub mod text;
 mod treatments;
 mod undoing;
 mod verdicts;

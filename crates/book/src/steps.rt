@@ -103,7 +103,7 @@ fn record_event(
 }
 
 // An event within its limits, done to a fit ledger.
-fn act(
+pub fn act(
     header: Header,
     e: Event,
     mandates: &mut [u64],

@@ -1,14 +1,17 @@
 // A text of events: the lines of the program's input, answered one after the other: specs/Text.
 ghost use mathlib.Core.Path.{_≡_};
 ghost use mathlib.Core.List.{[]};
-ghost use Prim.Native.Nat.{_≤_, min};
+ghost use mathlib.Core.Bool.{_&&_};
+ghost use Prim.Native.Nat.{_/_, _≤_, min};
+ghost use lib.Dec.{leb};
 ghost use lib.ListN.{length, take, drop};
 ghost use Rattle.events.specs.Line.{pasted};
 ghost use Rattle.tables.specs.Ledger.{ledger};
 ghost use Rattle.model.specs.Step.{answerNumber};
-ghost use Rattle.report.specs.Run.{runAt, keptLength, kept, endText, toldEnd};
+ghost use Rattle.report.specs.Layout.{answerLength};
+ghost use Rattle.report.specs.Run.{runAt, keptLength, kept};
 ghost use Rattle.book.specs.Events.{Taken};
-ghost use Rattle.book.specs.Text.{Sound, Known, LineTaken, Ready, LineTold, Roomy, LinesTold, Told, pieceFits, pieceRun, pieceTold, textAfter, endFits};
+ghost use Rattle.book.specs.Text.{Sound, Known, LineTaken, Ready, LineTold, Roomy, LinesTold, PieceTaken, EndTaken};
 use crate::Outcome;
 use crate::event::take_event;
 use crate::steps::act;
@@ -20,6 +23,7 @@ use refusals::number_of;
 use report::cut::LineEnd;
 use report::cut::line_end;
 use report::layout::answer_line;
+use safety::is_safe;
 use tables::Header;
 
 // The most lines that are answered, the bytes of an answer, and those that are kept of a line that has begun.
@@ -261,4 +265,141 @@ fn keep_begun(text: &mut [u8], at: usize, filled: usize) -> usize
         i += 1;
     }
     n
+}
+
+// Whether the text is there and the buffer has room for an answer to each byte.
+fn piece_fits(filled: usize, long: usize, room: usize) -> bool
+    ensures { λ r. ⌜ r ≡ leb filled long && leb filled (room / answerLength) ⌝ }
+{
+    (filled <= long) & (filled <= room / ANSWER)
+}
+
+// Whether the text is there and the buffer has room for an answer.
+fn end_fits(filled: usize, long: usize, room: usize) -> bool
+    ensures { λ r. ⌜ r ≡ leb filled long && leb answerLength room ⌝ }
+{
+    (filled <= long) & (ANSWER <= room)
+}
+
+// Takes a piece of input, its first `filled` bytes: answers every line that has ended, and puts what is kept of the next
+// one to the front of the text. The memory is tested once.
+pub fn take_text(
+    header: Header,
+    lines: u64,
+    filled: usize,
+    text: &mut [u8],
+    out: &mut [u8],
+    mandates: &mut [u64],
+    collections: &mut [u64],
+    creditors: &mut [u64],
+    creditor_positions: &mut [i64],
+    debtor_positions: &mut [i64],
+    bank_positions: &mut [i64],
+) -> Piece
+    ensures { λ r. ⌜ PieceTaken (ledger header (now (mandates .entry)) (now (collections .entry)) (now (creditors .entry)) (now («creditor_positions» .entry)) (now («debtor_positions» .entry)) (now («bank_positions» .entry))) lines filled (now (text .entry)) (now (out .entry)) r
+        (ledger (r .header) (now (mandates .exit)) (now (collections .exit)) (now (creditors .exit)) (now («creditor_positions» .exit)) (now («debtor_positions» .exit)) (now («bank_positions» .exit))) (now (text .exit)) (now (out .exit)) ⌝ }
+{
+    if !piece_fits(filled, text.len(), out.len()) {
+        return Piece {
+            answer: Answer::Refused(Refusal::UnfitMemory),
+            header: header,
+            lines: lines,
+            begun: filled,
+            told: 0,
+        };
+    }
+    let known = is_safe(
+        header,
+        mandates,
+        collections,
+        creditors,
+        creditor_positions,
+        debtor_positions,
+        bank_positions,
+    );
+    let done = take_lines(
+        known,
+        header,
+        lines,
+        &text[..filled],
+        out,
+        mandates,
+        collections,
+        creditors,
+        creditor_positions,
+        debtor_positions,
+        bank_positions,
+    );
+    let after = done.header;
+    let at = done.at;
+    let begun = keep_begun(text, at, filled);
+    Piece {
+        answer: Answer::Accepted,
+        header: after,
+        lines: done.lines,
+        begun: begun,
+        told: done.told,
+    }
+}
+
+// Takes the end of the input: answers a line that has begun, the first `filled` bytes of the text.
+pub fn end_text(
+    header: Header,
+    lines: u64,
+    filled: usize,
+    text: &[u8],
+    out: &mut [u8],
+    mandates: &mut [u64],
+    collections: &mut [u64],
+    creditors: &mut [u64],
+    creditor_positions: &mut [i64],
+    debtor_positions: &mut [i64],
+    bank_positions: &mut [i64],
+) -> Piece
+    ensures { λ r. ⌜ EndTaken (ledger header (now (mandates .entry)) (now (collections .entry)) (now (creditors .entry)) (now («creditor_positions» .entry)) (now («debtor_positions» .entry)) (now («bank_positions» .entry))) lines filled (now (text .entry)) (now (out .entry)) r
+        (ledger (r .header) (now (mandates .exit)) (now (collections .exit)) (now (creditors .exit)) (now («creditor_positions» .exit)) (now («debtor_positions» .exit)) (now («bank_positions» .exit))) (now (out .exit)) ⌝ }
+{
+    if !end_fits(filled, text.len(), out.len()) {
+        return Piece {
+            answer: Answer::Refused(Refusal::UnfitMemory),
+            header: header,
+            lines: lines,
+            begun: filled,
+            told: 0,
+        };
+    }
+    if filled == 0 {
+        return Piece {
+            answer: Answer::Accepted,
+            header: header,
+            lines: lines,
+            begun: 0,
+            told: 0,
+        };
+    }
+    let start = Progress {
+        header: header,
+        lines: lines,
+        told: 0,
+    };
+    let done = end_line(
+        false,
+        start,
+        &text[..filled],
+        out,
+        mandates,
+        collections,
+        creditors,
+        creditor_positions,
+        debtor_positions,
+        bank_positions,
+    );
+    let after = done.header;
+    Piece {
+        answer: Answer::Accepted,
+        header: after,
+        lines: done.lines,
+        begun: 0,
+        told: done.told,
+    }
 }

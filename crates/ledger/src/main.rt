@@ -1,103 +1,50 @@
 // The program `ledger` of document 01, "The text line": events from standard input, one a line; to standard output an
-// answer for each line, then the positions and the total compensation. What a line means, what the ledger answers and
-// how both are written stands in the libraries, proved; here they are put together.
-use book::event::take_event;
-use book::query::position;
-use common::BANKS;
-use common::CREDITORS;
-use common::DEBTORS;
-use events::line::LineAnswer;
+// answer for each line, then the positions and the total compensation. It reads and writes; what the bytes mean, what is
+// answered to them and how that is written is in the libraries, proved.
+use book::text::end_text;
+use book::text::take_text;
 use libc::STDIN_FILENO;
 use libc::STDOUT_FILENO;
-use model::Answer;
-use model::QueryAnswer;
-use refusals::Refusal;
-use refusals::number_of;
-use report::layout::answer_line;
-use report::layout::position_line;
+use report::listing::list_positions;
 use tables::Header;
 use tables::OpenAnswer;
 use tables::opening::open_ledger;
 
-// The most lines that are read, and the bytes of a sound line with its end.
+// The most lines that are answered.
 const LINES: u64 = 999_999;
 
-const LINE: usize = 75;
-
-const LINE_END: u8 = 10;
-
-// How far a run is: the header of the ledger, the lines answered, the bytes gathered of the next line, where LINE + 1
-// stands for any number above LINE, whether there may be more input, and whether what is written still finds a reader.
+// How far a run is: the header of the ledger, the lines answered, the bytes at the front of the text that begin a line,
+// whether there may be more input, and whether what is written still finds a reader.
 struct Progress {
     header: Header,
     lines: u64,
-    gathered: usize,
+    begun: usize,
     more: bool,
     heard: bool,
 }
 
-// The number of an answer, and the header after it.
-struct Answered {
-    number: u64,
-    header: Header,
-}
-
-// The number of the answer to an event: 0 where it is accepted.
-fn answer_number(answer: Answer) -> u64 {
-    match answer {
-        Answer::Accepted => 0,
-        Answer::Refused(r) => number_of(r),
+// Reads once behind the bytes that begin a line, and gives the bytes of the text then; no more than before at the end.
+fn read_behind(text: &mut [u8], begun: usize) -> usize {
+    if begun >= text.len() {
+        return begun;
     }
+    let got = libc::read(STDIN_FILENO, &mut text[begun..]);
+    begun + io::count(got, &text[begun..])
 }
 
-// The answer to a line: what the reader refuses, or what the ledger answers to the event.
-fn answer_to(
-    header: Header,
-    line: &[u8],
-    mandates: &mut [u64],
-    collections: &mut [u64],
-    creditors: &mut [u64],
-    creditor_positions: &mut [i64],
-    debtor_positions: &mut [i64],
-    bank_positions: &mut [i64],
-) -> Answered {
-    match events::line::read(line) {
-        LineAnswer::Refused(r) => Answered {
-            number: number_of(r),
-            header: header,
-        },
-        LineAnswer::Taken(e) => {
-            let out = take_event(
-                header,
-                e,
-                mandates,
-                collections,
-                creditors,
-                creditor_positions,
-                debtor_positions,
-                bank_positions,
-            );
-            let answer = out.answer;
-            let after = out.header;
-            Answered {
-                number: answer_number(answer),
-                header: after,
-            }
-        }
+// Writes the first bytes of a buffer, and says whether they found a reader.
+fn tell(out: &[u8], bytes: usize) -> bool {
+    if bytes > out.len() {
+        return false;
     }
+    io::write_all(STDOUT_FILENO, &out[..bytes])
 }
 
-// Writes the answer of a line's number, and says whether it found a reader.
-fn tell(number: u64, answer: u64) -> bool {
-    let mut out = *b"          ";
-    answer_line(&mut out, 0, number, answer);
-    io::write_all(STDOUT_FILENO, &out)
-}
-
-// Answers the line that was gathered; one of another length than a sound line's is a bad line whatever it holds.
-fn end_line(
+// Reads once, and answers the lines that have ended.
+fn take_piece(
     p: Progress,
-    line: &[u8],
+    text: &mut [u8],
+    out: &mut [u8],
     mandates: &mut [u64],
     collections: &mut [u64],
     creditors: &mut [u64],
@@ -105,23 +52,24 @@ fn end_line(
     debtor_positions: &mut [i64],
     bank_positions: &mut [i64],
 ) -> Progress {
-    if p.lines >= LINES {
-        return p;
-    }
-    let number = p.lines + 1;
     let header = p.header;
-    if p.gathered != LINE {
+    let begun = p.begun;
+    let filled = read_behind(text, begun);
+    if filled == begun {
         return Progress {
             header: header,
-            lines: number,
-            gathered: 0,
-            more: p.more,
-            heard: tell(number, number_of(Refusal::BadLine)),
+            lines: p.lines,
+            begun: begun,
+            more: false,
+            heard: p.heard,
         };
     }
-    let answered = answer_to(
+    let piece = take_text(
         header,
-        line,
+        p.lines,
+        filled,
+        text,
+        out,
         mandates,
         collections,
         creditors,
@@ -129,170 +77,23 @@ fn end_line(
         debtor_positions,
         bank_positions,
     );
-    let after = answered.header;
+    let after = piece.header;
+    let told = piece.told;
     Progress {
         header: after,
-        lines: number,
-        gathered: 0,
-        more: p.more,
-        heard: tell(number, answered.number),
+        lines: piece.lines,
+        begun: piece.begun,
+        more: piece.lines < LINES,
+        heard: tell(out, told),
     }
-}
-
-// Puts a byte behind those gathered, as far as a sound line goes, and counts it.
-fn gather(gathered: usize, byte: u8, line: &mut [u8]) -> usize {
-    if gathered < line.len() {
-        line[gathered] = byte;
-        return gathered + 1;
-    }
-    LINE + 1
-}
-
-// A byte of input.
-fn take_byte(
-    p: Progress,
-    byte: u8,
-    line: &mut [u8],
-    mandates: &mut [u64],
-    collections: &mut [u64],
-    creditors: &mut [u64],
-    creditor_positions: &mut [i64],
-    debtor_positions: &mut [i64],
-    bank_positions: &mut [i64],
-) -> Progress {
-    let header = p.header;
-    let next = Progress {
-        header: header,
-        lines: p.lines,
-        gathered: gather(p.gathered, byte, line),
-        more: p.more,
-        heard: p.heard,
-    };
-    if byte != LINE_END {
-        return next;
-    }
-    end_line(
-        next,
-        line,
-        mandates,
-        collections,
-        creditors,
-        creditor_positions,
-        debtor_positions,
-        bank_positions,
-    )
-}
-
-// The bytes of a piece of input, one after the other.
-fn take_piece(
-    start: Progress,
-    piece: &[u8],
-    line: &mut [u8],
-    mandates: &mut [u64],
-    collections: &mut [u64],
-    creditors: &mut [u64],
-    creditor_positions: &mut [i64],
-    debtor_positions: &mut [i64],
-    bank_positions: &mut [i64],
-) -> Progress {
-    let mut p = start;
-    let mut i: usize = 0;
-    while i < piece.len() {
-        let byte = piece[i];
-        i += 1;
-        p = take_byte(
-            p,
-            byte,
-            line,
-            mandates,
-            collections,
-            creditors,
-            creditor_positions,
-            debtor_positions,
-            bank_positions,
-        );
-    }
-    p
-}
-
-// The end of the input: what was gathered is a line without its end.
-fn end_input(
-    p: Progress,
-    line: &[u8],
-    mandates: &mut [u64],
-    collections: &mut [u64],
-    creditors: &mut [u64],
-    creditor_positions: &mut [i64],
-    debtor_positions: &mut [i64],
-    bank_positions: &mut [i64],
-) -> Progress {
-    let header = p.header;
-    let last = Progress {
-        header: header,
-        lines: p.lines,
-        gathered: p.gathered,
-        more: false,
-        heard: p.heard,
-    };
-    if p.gathered == 0 {
-        return last;
-    }
-    end_line(
-        last,
-        line,
-        mandates,
-        collections,
-        creditors,
-        creditor_positions,
-        debtor_positions,
-        bank_positions,
-    )
-}
-
-// Reads once and takes what came; where nothing came the input has ended.
-fn read_piece(
-    p: Progress,
-    line: &mut [u8],
-    mandates: &mut [u64],
-    collections: &mut [u64],
-    creditors: &mut [u64],
-    creditor_positions: &mut [i64],
-    debtor_positions: &mut [i64],
-    bank_positions: &mut [i64],
-) -> Progress {
-    let mut buf = io::buffer();
-    let got = libc::read(STDIN_FILENO, &mut buf);
-    let n = io::count(got, &buf);
-    if n == 0 {
-        return end_input(
-            p,
-            line,
-            mandates,
-            collections,
-            creditors,
-            creditor_positions,
-            debtor_positions,
-            bank_positions,
-        );
-    }
-    take_piece(
-        p,
-        &buf[..n],
-        line,
-        mandates,
-        collections,
-        creditors,
-        creditor_positions,
-        debtor_positions,
-        bank_positions,
-    )
 }
 
 // The whole input, piece by piece, until it ends, the last line is answered or nobody listens. A proved loop has to
 // end, and nothing says that the input does: so the loop counts its turns down from a number that no run uses up.
 fn take_input(
     start: Progress,
-    line: &mut [u8],
+    text: &mut [u8],
+    out: &mut [u8],
     mandates: &mut [u64],
     collections: &mut [u64],
     creditors: &mut [u64],
@@ -302,11 +103,12 @@ fn take_input(
 ) -> Progress {
     let mut p = start;
     let mut turns = u64::MAX;
-    while turns > 0 && p.more & p.heard & (p.lines < LINES) {
+    while turns > 0 && p.more & p.heard {
         turns -= 1;
-        p = read_piece(
+        p = take_piece(
             p,
-            line,
+            text,
+            out,
             mandates,
             collections,
             creditors,
@@ -318,120 +120,50 @@ fn take_input(
     p
 }
 
-// Writes a position, unless it is a party's or a bank's position of 0.
-fn tell_position(kind: u64, number: u64, answer: QueryAnswer) -> bool {
-    let QueryAnswer::Figure(cents) = answer else {
-        return true;
-    };
-    if (cents == 0) & (kind != 4) {
-        return true;
-    }
-    let mut out = *b"                           ";
-    position_line(&mut out, 0, kind, number, cents);
-    io::write_all(STDOUT_FILENO, &out)
-}
-
-// Writes the positions of a kind, from number 1 to the last.
-fn tell_kind(
-    header: Header,
-    kind: u64,
-    last: u64,
-    mandates: &[u64],
-    collections: &[u64],
-    creditors: &[u64],
-    creditor_positions: &[i64],
-    debtor_positions: &[i64],
-    bank_positions: &[i64],
+// Answers a line that has begun where the input ends, and lists the positions.
+fn finish(
+    p: Progress,
+    text: &[u8],
+    out: &mut [u8],
+    mandates: &mut [u64],
+    collections: &mut [u64],
+    creditors: &mut [u64],
+    creditor_positions: &mut [i64],
+    debtor_positions: &mut [i64],
+    bank_positions: &mut [i64],
 ) {
-    let mut number: u64 = 0;
-    let mut heard = true;
-    while number < last && heard {
-        number += 1;
-        let answer = position(
-            header,
-            kind,
-            number,
+    let header = p.header;
+    let piece = end_text(
+        header,
+        p.lines,
+        p.begun,
+        text,
+        out,
+        mandates,
+        collections,
+        creditors,
+        creditor_positions,
+        debtor_positions,
+        bank_positions,
+    );
+    let last = piece.header;
+    let told = piece.told;
+    if tell(out, told) {
+        let listing = list_positions(
+            last,
             mandates,
             collections,
             creditors,
             creditor_positions,
             debtor_positions,
             bank_positions,
+            out,
         );
-        heard = tell_position(kind, number, answer);
+        tell(out, listing.bytes);
     }
 }
 
-// Writes every position that is not 0: creditors, debtors, banks.
-fn tell_positions(
-    header: Header,
-    mandates: &[u64],
-    collections: &[u64],
-    creditors: &[u64],
-    creditor_positions: &[i64],
-    debtor_positions: &[i64],
-    bank_positions: &[i64],
-) {
-    tell_kind(
-        header,
-        1,
-        CREDITORS,
-        mandates,
-        collections,
-        creditors,
-        creditor_positions,
-        debtor_positions,
-        bank_positions,
-    );
-    tell_kind(
-        header,
-        2,
-        DEBTORS,
-        mandates,
-        collections,
-        creditors,
-        creditor_positions,
-        debtor_positions,
-        bank_positions,
-    );
-    tell_kind(
-        header,
-        3,
-        BANKS,
-        mandates,
-        collections,
-        creditors,
-        creditor_positions,
-        debtor_positions,
-        bank_positions,
-    );
-}
-
-// Writes the total compensation.
-fn tell_total(
-    header: Header,
-    mandates: &[u64],
-    collections: &[u64],
-    creditors: &[u64],
-    creditor_positions: &[i64],
-    debtor_positions: &[i64],
-    bank_positions: &[i64],
-) {
-    let total = position(
-        header,
-        4,
-        0,
-        mandates,
-        collections,
-        creditors,
-        creditor_positions,
-        debtor_positions,
-        bank_positions,
-    );
-    tell_position(4, 0, total);
-}
-
-// The lines of the input, and then the positions.
+// The lines of the input, and then the positions. The buffer has room for an answer to each byte of the text.
 fn run(
     header: Header,
     mandates: &mut [u64],
@@ -441,17 +173,19 @@ fn run(
     debtor_positions: &mut [i64],
     bank_positions: &mut [i64],
 ) {
-    let mut line = [0u8; 75];
+    let mut text = io::large_buffer();
+    let mut out = [0u8; 655360];
     let start = Progress {
         header: header,
         lines: 0,
-        gathered: 0,
+        begun: 0,
         more: true,
         heard: true,
     };
     let p = take_input(
         start,
-        &mut line,
+        &mut text,
+        &mut out,
         mandates,
         collections,
         creditors,
@@ -460,17 +194,10 @@ fn run(
         bank_positions,
     );
     if p.heard {
-        tell_positions(
-            p.header,
-            mandates,
-            collections,
-            creditors,
-            creditor_positions,
-            debtor_positions,
-            bank_positions,
-        );
-        tell_total(
-            p.header,
+        finish(
+            p,
+            &text,
+            &mut out,
             mandates,
             collections,
             creditors,

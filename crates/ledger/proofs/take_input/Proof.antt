@@ -7,8 +7,9 @@ use Rattle.ledger.proofs.take_input.Statement.{statement}
 use Rattle.ledger.proofs.take_input.Tie as tie
 
 abbrev Inv-loop : tie.InvT-loop
-Inv-loop line₀ mandates₀ collections₀ creditors₀ creditor-positions₀ debtor-positions₀ bank-positions₀ p₀ turns₀ line mandates collections creditors creditor-positions debtor-positions bank-positions p turns =
-    length line ≡ length line₀
+Inv-loop text₀ out₀ mandates₀ collections₀ creditors₀ creditor-positions₀ debtor-positions₀ bank-positions₀ p₀ turns₀ text out mandates collections creditors creditor-positions debtor-positions bank-positions p turns =
+    length text ≡ length text₀
+    × length out ≡ length out₀
     × length mandates ≡ length mandates₀
     × length collections ≡ length collections₀
     × length creditors ≡ length creditors₀
@@ -17,7 +18,7 @@ Inv-loop line₀ mandates₀ collections₀ creditors₀ creditor-positions₀ d
     × length bank-positions ≡ length bank-positions₀
 
 abbrev μ-loop : tie.MeasureT-loop
-μ-loop line₀ mandates₀ collections₀ creditors₀ creditor-positions₀ debtor-positions₀ bank-positions₀ p₀ turns₀ line mandates collections creditors creditor-positions debtor-positions bank-positions p turns = turns
+μ-loop text₀ out₀ mandates₀ collections₀ creditors₀ creditor-positions₀ debtor-positions₀ bank-positions₀ p₀ turns₀ text out mandates collections creditors creditor-positions debtor-positions bank-positions p turns = turns
 
 loop-holds : tie.Need-loop-holds Inv-loop μ-loop
 loop-holds c = search needs
@@ -25,8 +26,8 @@ loop-holds c = search needs
 sub-turns : tie.Need-sub-turns Inv-loop μ-loop
 sub-turns c = search needs
 
-read-piece-requires : tie.Need-read-piece-requires Inv-loop μ-loop
-read-piece-requires c κs = search needs
+take-piece-requires : tie.Need-take-piece-requires Inv-loop μ-loop
+take-piece-requires c κs = search needs
 
 loop-less : tie.Need-loop-less Inv-loop μ-loop
 loop-less c = search needs
@@ -82,6 +83,9 @@ same-length-14 c = search needs
 returns-2 : tie.Need-returns-2 Inv-loop μ-loop
 returns-2 c = search needs
 
+same-length-15 : tie.Need-same-length-15 Inv-loop μ-loop
+same-length-15 c = search needs
+
 pub take-input-spec : {M : Type 1} → statement M
 take-input-spec =
     tie.close
@@ -90,7 +94,7 @@ take-input-spec =
     μ-loop
     loop-holds
     sub-turns
-    read-piece-requires
+    take-piece-requires
     loop-less
     loop-again
     same-length
@@ -108,4 +112,5 @@ take-input-spec =
     same-length-12
     same-length-13
     same-length-14
+    same-length-15
     returns-2)

@@ -1,4 +1,4 @@
--- Laws of specs/Refusals. To cite: `numberOf-pos` (0 is no refusal's number). Assumes nothing.
+-- Laws of specs/Refusals. To cite: `numberOf-pos` (0 is no refusal's number), `numberOf-most`. Assumes nothing.
 use Prim.Native.Nat.{_≤_}
 use lib.Dec.{lit≤}
 use Rattle.refusals.specs.Refusals.{numberOf}
@@ -23,3 +23,22 @@ numberOf-pos Lapsed = lit≤ tt
 numberOf-pos WrongState = lit≤ tt
 numberOf-pos BeforeDue = lit≤ tt
 numberOf-pos AfterLastDay = lit≤ tt
+
+pub numberOf-most : (r : Refusal) → numberOf r ≤ 17
+numberOf-most BadLine = lit≤ tt
+numberOf-most UnfitMemory = lit≤ tt
+numberOf-most UnknownKind = lit≤ tt
+numberOf-most BadDate = lit≤ tt
+numberOf-most BadField = lit≤ tt
+numberOf-most BeforeLatest = lit≤ tt
+numberOf-most NotBusinessDay = lit≤ tt
+numberOf-most AlreadyExists = lit≤ tt
+numberOf-most DoesNotExist = lit≤ tt
+numberOf-most NoRowLeft = lit≤ tt
+numberOf-most NotLive = lit≤ tt
+numberOf-most WrongSequence = lit≤ tt
+numberOf-most BadTiming = lit≤ tt
+numberOf-most Lapsed = lit≤ tt
+numberOf-most WrongState = lit≤ tt
+numberOf-most BeforeDue = lit≤ tt
+numberOf-most AfterLastDay = lit≤ tt

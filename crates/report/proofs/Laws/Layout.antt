@@ -300,6 +300,11 @@ module _ (at number answer : ℕ) (out : List ℕ) where
       let p = and-halves (room && leb number lastNumber) e in
       leb-true (at + answerLength) (length out) (and-halves room (p .0) .0)
 
+  pub answerFits-made : at + answerLength ≤ length out → number ≤ lastNumber → answer ≤ lastAnswer → answerFits at number answer out ≡ true
+  unfolding answerFits
+  answerFits-made h n a =
+      rw (le-leb (at + answerLength) (length out) h, le-leb number lastNumber n, le-leb answer lastAnswer a)
+
 module _ (at kind number : ℕ) (cents : ℤ) (out : List ℕ) where
   pub positionFits-is : (room limit : Bool)
       → room ≡ leb (at + positionLength) (length out)

@@ -1,58 +1,53 @@
+-- `keep_begun` meets its contract. The loop: the first i bytes of the line have been moved to the front. Assumes nothing.
+use native.Mathlib.Omega.{arith}
+use mathlib.Core.Path.{_≡_, refl, sym, _∙_}
+use Prim.Native.Nat.{_-_, _≤_}
+use lib.ListN.{length, length-set}
+use Rattle.book.proofs.Laws.Text.{Moving, begun-length, moving-start, moving-step, moving-end}
+use borrow.Author.Needs.{needs}
 use Rattle.book.proofs.text.keep_begun.Statement.{statement}
 use Rattle.book.proofs.text.keep_begun.Tie as tie
-use Rattle.book.proofs.text.keep_begun.Reads as reads
-use Rattle.book.proofs.text.keep_begun.Lts as lts
-use Rattle.book.proofs.text.kept_length.Reads as kept-length-reads
 
 abbrev Inv-loop : tie.InvT-loop
-Inv-loop text₀ at filled n i₀ text i = ?
+Inv-loop text₀ at filled n i₀ text i =
+    Moving text₀ at i text × (i ≤ n) × (length text ≡ length text₀)
 
 abbrev μ-loop : tie.MeasureT-loop
-μ-loop text₀ at filled n i₀ text i = ?
+μ-loop text₀ at filled n i₀ text i =
+    n - i
 
--- src/text.rt:257:25
 sub-kept-length : tie.Need-sub-kept-length Inv-loop μ-loop
-sub-kept-length c = ?
+sub-kept-length c = c .before .pre .0
 
--- src/text.rt:257:9
 kept-length-requires : tie.Need-kept-length-requires Inv-loop μ-loop
-kept-length-requires c κs = ?
+kept-length-requires c κs = search needs
 
--- src/text.rt:259:5
 loop-holds : tie.Need-loop-holds Inv-loop μ-loop
-loop-holds c = ?
+loop-holds c = (moving-start _ _, omega arith, refl)
 
--- src/text.rt:260:24
 add-text : tie.Need-add-text Inv-loop μ-loop
-add-text c = ?
+add-text c = search needs
 
--- src/text.rt:260:19
 slice-read-text : tie.Need-slice-read-text Inv-loop μ-loop
-slice-read-text c = ?
+slice-read-text c = search needs
 
--- src/text.rt:260:9
 slice-write-text : tie.Need-slice-write-text Inv-loop μ-loop
-slice-write-text c = ?
+slice-write-text c = search needs
 
--- src/text.rt:261:9
 add-i : tie.Need-add-i Inv-loop μ-loop
-add-i c = ?
+add-i c = search needs
 
--- src/text.rt:259:5
 loop-less : tie.Need-loop-less Inv-loop μ-loop
-loop-less c = ?
+loop-less c = search needs
 
--- src/text.rt:259:5
 loop-again : tie.Need-loop-again Inv-loop μ-loop
-loop-again c = ?
+loop-again c = (moving-step _ _ _ _ (search needs) (c .before .before .loop .inv .0), search needs, search needs)
 
--- src/text.rt:252:1
 same-length : tie.Need-same-length Inv-loop μ-loop
-same-length c = ?
+same-length c = search needs
 
--- src/text.rt:252:1
 returns : tie.Need-returns Inv-loop μ-loop
-returns c = ?
+returns c = (begun-length _ _ _ _ (c .before .before .before .before .pre .0) (c .before .before .before .before .pre .1) (c .before .before .kept-length .ensures), moving-end _ _ _ _ _ _ (c .before .before .before .before .pre .0) (c .before .before .before .before .pre .1) (c .before .before .kept-length .ensures) (search needs) (c .before .loop .inv .0))
 
 pub keep-begun-spec : {M : Type 1} → statement M
 keep-begun-spec =
