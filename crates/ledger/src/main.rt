@@ -193,19 +193,20 @@ fn run(
         debtor_positions,
         bank_positions,
     );
-    if p.heard {
-        finish(
-            p,
-            &text,
-            &mut out,
-            mandates,
-            collections,
-            creditors,
-            creditor_positions,
-            debtor_positions,
-            bank_positions,
-        );
+    if !p.heard {
+        return;
     }
+    finish(
+        p,
+        &text,
+        &mut out,
+        mandates,
+        collections,
+        creditors,
+        creditor_positions,
+        debtor_positions,
+        bank_positions,
+    );
 }
 
 // Lends 128 mandate rows and 256 collection rows, of 9 cells each, opens the ledger on them and runs.
