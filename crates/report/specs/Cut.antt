@@ -2,7 +2,8 @@
 -- To cite: proofs/Laws/Cut. Assumes nothing.
 use mathlib.Core.Bool.{Bool}
 use mathlib.Core.List.{List}
-use Prim.Native.Nat.{ℕ, _-_}
+use mathlib.Core.Logic.{_≢_}
+use Prim.Native.Nat.{ℕ, _-_, _<_}
 use lib.Dec.{eqb}
 use lib.ListN.{length, getD}
 use Rattle.common.specs.Walk.{firstFrom}
@@ -16,3 +17,7 @@ endsAt text i = eqb (getD text i 0) lineEnd
 -- the first end of a line from a place on; there is none past the last byte
 unfoldable pub endFrom : List ℕ → ℕ → LineEnd
 endFrom text from = firstFrom (endsAt text) At NoEnd from (length text - from)
+
+-- no byte of it ends a line
+abbrev pub Endless : List ℕ → Type 0
+Endless text = (j : ℕ) → j < length text → getD text j 0 ≢ lineEnd

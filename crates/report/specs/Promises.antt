@@ -1,16 +1,11 @@
 -- What is promised of a run, as statements. proofs/Laws/Run has the proofs. Assumes nothing.
 use mathlib.Core.Path.{_≡_}
 use mathlib.Core.List.{List, [], _∷_, _++_}
-use mathlib.Core.Logic.{_≢_}
-use Prim.Native.Nat.{ℕ, _<_}
-use lib.ListN.{length, getD}
+use Prim.Native.Nat.{ℕ}
 use Rattle.events.specs.Line.{lineEnd}
 use Rattle.tables.specs.Ledger.{Ledger}
+use Rattle.report.specs.Cut.{Endless}
 use Rattle.report.specs.Run.{Run, runAt, ended, toldEnded, takeText, toldText}
-
--- no byte of it ends a line
-abbrev pub Endless : List ℕ → Type 0
-Endless text = (j : ℕ) → j < length text → getD text j 0 ≢ lineEnd
 
 -- ---- lines: a text that ends where its only line ends is answered as the reader and the ledger answer that line, whole
 

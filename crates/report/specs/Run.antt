@@ -1,21 +1,24 @@
 -- The run of the program `ledger`: the bytes of its input one after the other, and what it writes. Document 01, "The text line".
 -- What the pieces that an input comes in and the lines of a text have to do with it: specs/Promises. Assumes nothing.
+use mathlib.Core.Path.{_≡_}
 use mathlib.Core.Bool.{Bool, cond, _&&_}
 use mathlib.Core.List.{List, [], _∷_, _++_}
 use Prim.Native.Nat.{ℕ, zero, suc, _+_, _*_}
 use lib.Dec.{eqb, ltb, leb}
 use lib.IntN.{ℤ, pos, negsuc}
 use lib.ListN.{take, length}
+use Rattle.refusals.specs.declared.Refusal.the-variants.{UnfitMemory}
 use Rattle.events.specs.declared.line.LineAnswer.{LineAnswer}
 use Rattle.events.specs.declared.line.LineAnswer.the-variants as lines
-use Rattle.events.specs.Line.{lineEnd, lineLength, readLine}
+use Rattle.events.specs.Line.{lineEnd, lineLength, readLine, pasted}
 use Rattle.positions.specs.Positions.{position}
 use Rattle.tables.specs.Limits.{creditorCount, debtorCount, bankCount}
 use Rattle.tables.specs.Ledger.{Ledger}
 use Rattle.tables.specs.Fitness.{fit}
 use Rattle.model.specs.declared.Answer.{Answer}
-use Rattle.model.specs.declared.Answer.the-variants.{Refused}
+use Rattle.model.specs.declared.Answer.the-variants.{Accepted, Refused}
 use Rattle.model.specs.Step.{answerNumber, answer, after, figureOf}
+use Rattle.report.specs.declared.listing.Listing.{Listing}
 use Rattle.report.specs.Layout.{lastNumber, answerLine, positionLine, positionLength}
 
 -- ---- a line: what the reader refuses, or what the ledger answers to the event
@@ -120,3 +123,9 @@ unfoldable pub toldTable : ℕ → List ℤ → ℕ → List ℕ
 toldTable kind positions zero = []
 toldTable kind positions (suc n) =
     toldTable kind positions n ++ toldPosition kind (suc n) (position positions (suc n))
+
+-- the listing, or refusal 2 and nothing written
+pub record Listed (l : Ledger) (out : List ℕ) (r : Listing) (out' : List ℕ) : Type 0 where
+  pub answer-is : r .answer ≡ cond (listed l out) Accepted (Refused UnfitMemory)
+  pub bytes-are : r .bytes ≡ cond (listed l out) (length (toldPositions l)) 0
+  pub out-is : out' ≡ cond (listed l out) (pasted 0 (toldPositions l) out) out

@@ -1,6 +1,10 @@
 // Where a line of the input ends: specs/Cut.
 ghost use mathlib.Core.Path.{_≡_};
-ghost use Rattle.report.specs.Cut.{endFrom};
+ghost use mathlib.Core.Bool.{true};
+ghost use Prim.Native.Nat.{_+_};
+ghost use Rattle.events.specs.Line.{columns};
+ghost use Rattle.report.specs.Cut.{Endless, endFrom};
+ghost use Rattle.report.specs.declared.cut.LineEnd.the-variants.{At};
 
 // The place of the byte that ends a line.
 pub enum LineEnd {
@@ -10,8 +14,41 @@ pub enum LineEnd {
 
 const LINE_END: u8 = 10;
 
-// The first end of a line from a place on.
-pub fn line_end(text: &[u8], from: usize) -> LineEnd
+// The bytes of a sound line before its end.
+const COLUMNS: usize = 74;
+
+// Whether no byte ends a line. The loop has no other way out, so that many bytes can be compared at a time.
+fn is_endless(text: &[u8]) -> bool
+    ensures { λ r. ⌜ (r ≡ true → Endless (now (text .entry))) ⌝ }
+{
+    let mut none = true;
+    let mut i: usize = 0;
+    while i < text.len() {
+        none = none & (text[i] != LINE_END);
+        i += 1;
+    }
+    none
+}
+
+// Whether the line from a place on ends where a sound line does.
+fn ends_soundly(text: &[u8], from: usize) -> bool
+    ensures { λ r. ⌜ (r ≡ true → endFrom (now (text .entry)) from ≡ At (from + columns)) ⌝ }
+{
+    if text.len() <= COLUMNS {
+        return false;
+    }
+    if text.len() - COLUMNS <= from {
+        return false;
+    }
+    let end = from + COLUMNS;
+    if text[end] != LINE_END {
+        return false;
+    }
+    is_endless(&text[from..end])
+}
+
+// The first end of a line from a place on, byte by byte.
+fn scan(text: &[u8], from: usize) -> LineEnd
     ensures { λ r. ⌜ r ≡ endFrom (now (text .entry)) from ⌝ }
 {
     let mut i = from;
@@ -22,4 +59,14 @@ pub fn line_end(text: &[u8], from: usize) -> LineEnd
         i += 1;
     }
     LineEnd::NoEnd
+}
+
+// The first end of a line from a place on; first it is looked for where a sound line has it.
+pub fn line_end(text: &[u8], from: usize) -> LineEnd
+    ensures { λ r. ⌜ r ≡ endFrom (now (text .entry)) from ⌝ }
+{
+    if ends_soundly(text, from) {
+        return LineEnd::At(from + COLUMNS);
+    }
+    scan(text, from)
 }

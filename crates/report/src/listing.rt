@@ -1,15 +1,13 @@
 // The listing of positions: the last part of specs/Run.
 ghost use mathlib.Core.Path.{_≡_};
-ghost use mathlib.Core.Bool.{true, cond};
+ghost use mathlib.Core.Bool.{true};
 ghost use Prim.Native.Nat.{_+_, _*_, _≤_};
 ghost use lib.ListN.{length};
 ghost use Rattle.positions.specs.Positions.{positionLimit, Within};
 ghost use Rattle.events.specs.Line.{pasted};
-ghost use Rattle.refusals.specs.declared.Refusal.the-variants.{UnfitMemory};
 ghost use Rattle.tables.specs.Ledger.{ledger};
-ghost use Rattle.model.specs.declared.Answer.the-variants.{Accepted, Refused};
 ghost use Rattle.report.specs.Layout.{positionLength, lastKind, lastNumber, positionFits};
-ghost use Rattle.report.specs.Run.{toldPosition, toldTable, toldPositions, listed};
+ghost use Rattle.report.specs.Run.{toldPosition, toldTable, Listed};
 use crate::layout::POSITION;
 use crate::layout::position_line;
 use common::BANKS;
@@ -69,9 +67,7 @@ pub fn list_positions(
     bank_positions: &[i64],
     out: &mut [u8],
 ) -> Listing
-    ensures answer { λ r. ⌜ r .answer ≡ cond (listed (ledger header (now (mandates .entry)) (now (collections .entry)) (now (creditors .entry)) (now («creditor_positions» .entry)) (now («debtor_positions» .entry)) (now («bank_positions» .entry))) (now (out .entry))) Accepted (Refused UnfitMemory) ⌝ }
-    ensures bytes { λ r. ⌜ r .bytes ≡ cond (listed (ledger header (now (mandates .entry)) (now (collections .entry)) (now (creditors .entry)) (now («creditor_positions» .entry)) (now («debtor_positions» .entry)) (now («bank_positions» .entry))) (now (out .entry))) (length (toldPositions (ledger header (now (mandates .entry)) (now (collections .entry)) (now (creditors .entry)) (now («creditor_positions» .entry)) (now («debtor_positions» .entry)) (now («bank_positions» .entry))))) 0 ⌝ }
-    ensures buffer { λ _. ⌜ now (out .exit) ≡ cond (listed (ledger header (now (mandates .entry)) (now (collections .entry)) (now (creditors .entry)) (now («creditor_positions» .entry)) (now («debtor_positions» .entry)) (now («bank_positions» .entry))) (now (out .entry))) (pasted 0 (toldPositions (ledger header (now (mandates .entry)) (now (collections .entry)) (now (creditors .entry)) (now («creditor_positions» .entry)) (now («debtor_positions» .entry)) (now («bank_positions» .entry)))) (now (out .entry))) (now (out .entry)) ⌝ }
+    ensures { λ r. ⌜ Listed (ledger header (now (mandates .entry)) (now (collections .entry)) (now (creditors .entry)) (now («creditor_positions» .entry)) (now («debtor_positions» .entry)) (now («bank_positions» .entry))) (now (out .entry)) r (now (out .exit)) ⌝ }
 {
     let fit = is_fit(
         header,

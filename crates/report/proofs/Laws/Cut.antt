@@ -1,18 +1,23 @@
--- Laws of specs/Cut. To cite: `FirstEnd` with `endFrom-at`, `endFrom-none`, and `endFrom-cases`, from which both follow.
+-- Laws of specs/Cut. To cite: `FirstEnd` with `endFrom-at`, `endFrom-none`, `endFrom-first`, and `endFrom-cases`, from which both follow.
 -- Assumes nothing.
-use mathlib.Core.Path.{_≡_, refl}
+use mathlib.Core.Path.{_≡_, refl, sym, ap, _∙_}
+use mathlib.Core.Bool.{Bool, true, false, not, _&&_}
 use mathlib.Core.List.{List}
-use mathlib.Core.Logic.{_≢_}
-use Prim.Native.Nat.{ℕ, _-_, _≤_, _<_}
+use mathlib.Core.Logic.{⊎-elim, _≢_}
+use Prim.Native.Nat.{ℕ, _+_, _-_, _≤_, _<_}
+use native.Mathlib.Nat.{eq-or-lt-of-le}
 use native.Mathlib.Omega.{arith}
-use borrow.Author.Tests.{eqb-true, eqb-false}
-use lib.ListN.{length, getD}
+use borrow.Author.Tests.{eqb-true, eqb-false, leb-true, leb-false}
+use lib.Dec.{eqb, leb}
+use lib.ListN.{length, take, drop, getD, length-drop}
+use lib.Seq.{length-take-le, getD-take, getD-drop}
 use Rattle.common.specs.Walk.{firstFrom}
+use Rattle.common.proofs.Tests.{true-or-false, and-halves, not-true}
 use Rattle.common.proofs.Walk.{cases-from}
 use Rattle.events.specs.Line.{lineEnd}
 use Rattle.report.specs.declared.cut.LineEnd.{LineEnd}
 use Rattle.report.specs.declared.cut.LineEnd.the-variants.{At, NoEnd}
-use Rattle.report.specs.Cut.{endsAt, endFrom}
+use Rattle.report.specs.Cut.{Endless, endsAt, endFrom}
 
 -- the first end of a line from a place on is at k
 pub record FirstEnd (text : List ℕ) (from k : ℕ) : Type 0 where
@@ -61,3 +66,54 @@ module _ (text : List ℕ) (from : ℕ) where
     where
       no-end : (k : ℕ) → At k ≡ NoEnd → ⊥
       no-end k q = let z : _≡_ {A = ℕ} 0 1 = cc in absurd (omega arith)
+
+  pub endFrom-first : (k : ℕ) → FirstEnd text from k → endFrom text from ≡ At k
+  endFrom-first k f =
+      endFrom-cases (λ (a : LineEnd). a ≡ At k)
+      (λ i g. ap At (same i g))
+      (λ none. absurd (none k (f .onward) (f .inside) (f .ends)))
+    where
+      same : (i : ℕ) → FirstEnd text from i → i ≡ k
+      same i g =
+          ⊎-elim
+          (λ (h : leb k i ≡ true).
+          ⊎-elim
+          (λ (e : k ≡ i). sym e)
+          (λ (l : k < i). absurd (g .none-before k (f .onward) l (f .ends)))
+          (eq-or-lt-of-le (leb-true k i h)))
+          (λ (h : leb k i ≡ false). absurd (f .none-before i (g .onward) (leb-false k i h) (g .ends)))
+          (true-or-false (leb k i))
+
+  -- a line that ends where a sound one does
+  pub endFrom-sound : (k : ℕ) → from + k < length text → getD text (from + k) 0 ≡ lineEnd → Endless (take (from + k - from) (drop from text)) → endFrom text from ≡ At (from + k)
+  endFrom-sound k h e none =
+      endFrom-first (from + k)
+      (record {
+        onward = omega arith;
+        inside = h;
+        ends = e;
+        none-before = λ j lo hi q.
+            let d = length-drop from text in
+            let m : from + (j - from) ≡ j = omega arith in
+            none (j - from) (omega (arith, length-take-le (from + k - from) (drop from text) (omega arith)))
+            (getD-take (from + k - from) (drop from text) (j - from) 0 (omega arith)
+            ∙ getD-drop from text (j - from) 0
+            ∙ ap (λ (i : ℕ). getD text i 0) m
+            ∙ q);
+      })
+
+-- ---- bytes that end no line, one after the other
+
+abbrev pub EndlessTo : List ℕ → ℕ → Type 0
+EndlessTo text i = (j : ℕ) → j < i → getD text j 0 ≢ lineEnd
+
+pub endless-next : (text : List ℕ) (i : ℕ) (none : Bool)
+    → (none ≡ true → EndlessTo text i)
+    → none && not (eqb (getD text i 0) lineEnd) ≡ true
+    → EndlessTo text (i + 1)
+endless-next text i none e t j h =
+    let p = and-halves none t in
+    ⊎-elim
+    (λ (q : j ≡ i). λ x. eqb-false (getD text i 0) lineEnd (not-true (p .1)) (ap (λ (k : ℕ). getD text k 0) (sym q) ∙ x))
+    (λ (l : j < i). e (p .0) j l)
+    (eq-or-lt-of-le (omega arith))

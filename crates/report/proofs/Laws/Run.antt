@@ -19,7 +19,8 @@ use Rattle.events.proofs.Laws.Line.{readLine-length}
 use Rattle.tables.specs.Ledger.{Ledger}
 use Rattle.report.specs.Layout.{lastNumber}
 use Rattle.report.specs.Run.{Run, afterLine, runAt, keptLength, kept, ended, toldEnded, takeByte, toldByte, takeText, toldText}
-use Rattle.report.specs.Promises.{Endless, Answered, LineByLine, SameAtOnce, PieceByPiece}
+use Rattle.report.specs.Cut.{Endless}
+use Rattle.report.specs.Promises.{Answered, LineByLine, SameAtOnce, PieceByPiece}
 use Rattle.report.proofs.Laws.Cut.{FirstEnd}
 
 -- ---- one text behind the other
