@@ -3,17 +3,15 @@
 -- `fields-narrow` (every field fits its column). Nothing but `unfolding table` looks at the rows. Assumes nothing.
 use mathlib.Core.Path.{_≡_, refl, sym, _∙_, ap, subst}
 use mathlib.Core.Bool.{Bool, true, false, cond, _&&_}
-use mathlib.Core.List.{List, [], _∷_, map}
+use mathlib.Core.List.{List, [], _∷_}
 use mathlib.Core.Logic.{_⊎_, inl, inr, ⊎-elim}
-use Prim.Native.Nat.{ℕ, zero, suc, _+_, _≤_, _<_}
+use Prim.Native.Nat.{ℕ, zero, suc, _+_, _-_, _≤_, _<_}
 use native.Mathlib.Omega.{arith}
 use lib.Dec.{leb, eqb}
-use lib.ListN.{length, drop, getD, drop-of-length-le}
-use lib.Seq.{drop-cons}
-use native.Mathlib.Nat.{le-antisymm, eq-or-lt-of-le, not-suc-le-zero, le-of-suc-le-suc}
-use native.Mathlib.Numerals.{add-one}
-use borrow.Author.Tests.{leb-true, le-leb, eqb-true}
-use Rattle.common.proofs.Tests.{never, and-halves, and-true}
+use lib.ListN.{getD}
+use native.Mathlib.Nat.{le-antisymm, eq-or-lt-of-le}
+use borrow.Author.Tests.{leb-true, le-leb, lt-leb, eqb-true, eq-eqb}
+use Rattle.common.proofs.Tests.{never, false-unless, and-halves, and-true}
 use Rattle.calendar.specs.Gregorian.{inRange, lastDate}
 use Rattle.calendar.proofs.Laws.Gregorian.{range-facts}
 use Rattle.refusals.specs.declared.Refusal.{Refusal}
@@ -27,7 +25,7 @@ use Rattle.events.specs.declared.limits.RowAnswer.{RowAnswer}
 use Rattle.events.specs.declared.limits.RowAnswer.the-variants.{Found, NoRow}
 use Rattle.events.specs.declared.limits.Checked.{Checked}
 use Rattle.events.specs.declared.limits.Checked.the-variants.{Within, Refused}
-use Rattle.events.specs.Limits.{within, table, noRow, row, rowIn, rowOf, secondFits, rowFits, answerFits, fieldsFit, checked, kinds, unnamed, creditor, debtor, bank, number, cents, rate, mandateCodes, sequenceCodes, refundCodes, lastKind, only}
+use Rattle.events.specs.Limits.{within, table, noRow, row, cellsOf, rowIn, rowOf, secondFits, rowFits, answerFits, fieldsFit, checked, kinds, unnamed, creditor, debtor, bank, number, cents, rate, mandateCodes, sequenceCodes, refundCodes, lastKind, only}
 
 -- ---- ranges
 
@@ -44,45 +42,39 @@ within-between r x e =
 pub between-within : (r : Range) (x : ℕ) → Between r x → within r x ≡ true
 between-within r x b = and-true (le-leb _ _ (b .from)) (le-leb _ _ (b .to))
 
+-- ---- cases on a number
+
+-- what each of n numbers from i on gives where k is it
+abbrev pub Each : Type 0 → ℕ → ℕ → ℕ → Type 0
+Each P k i zero = Unit {0}
+Each P k i (suc n) = (k ≡ i → P) × Each P k (suc i) n
+
+each-case : (P : Type 0) (k i n : ℕ) → i ≤ k → k < i + n → Each P k i n → P
+each-case P k i zero l h f = absurd (omega arith)
+each-case P k i (suc n) l h f =
+    ⊎-elim (λ e. f .0 (sym e)) (λ g. each-case P k (suc i) n g (omega arith) (f .1)) (eq-or-lt-of-le l)
+
+-- k is none of the numbers below n, as a `match` says it of its last arm
+abbrev pub NoneBelow : ℕ → ℕ → Type 0
+NoneBelow k zero = Unit {0}
+NoneBelow k (suc n) = NoneBelow k n × (k ≡ n → ⊥)
+
+none-below-le : (k n : ℕ) → NoneBelow k n → n ≤ k
+none-below-le k zero f = omega arith
+none-below-le k (suc n) f = let l = none-below-le k n (f .0) in let m = f .1 in omega arith
+
+pub last-case : (k n : ℕ) → k < suc n → NoneBelow k n → k ≡ n
+last-case k n h f = let l = none-below-le k n f in omega arith
+
 -- ---- the table
 
--- entry i of a list whose entries are all changed by f
-pub getD-map : {A B : Type 0} (f : A → B) (l : List A) (i : ℕ) (a : A) (b : B)
-    → i < length l
-    → getD (map f l) i b ≡ f (getD l i a)
-getD-map f [] i a b h = absurd (not-suc-le-zero h)
-getD-map f (x ∷ l) zero a b h = refl
-getD-map f (x ∷ l) (suc i) a b h = getD-map f l i a b (le-of-suc-le-suc h)
+-- the numbers of row k are those of row i, which it is
+pub cells-at : (i k : ℕ) → i ≡ k → cellsOf (getD table k noRow) ≡ cellsOf (getD table i noRow)
+cells-at i k e = ap (λ (j : ℕ). cellsOf (getD table j noRow)) (sym e)
 
 -- whether a row is of a kind and a code
 abbrev pub isOf : ℕ → ℕ → Row → Bool
 isOf kind code r = eqb (r .kind) kind && within (r .codes) code
-
-rowIn-step : (rs : List Row) (kind code i : ℕ)
-    → i < length rs
-    → rowIn (drop i rs) kind code
-    ≡ cond (isOf kind code (getD rs i noRow)) (Found (getD rs i noRow)) (rowIn (drop (suc i) rs) kind code)
-rowIn-step rs kind code i h = rw (drop-cons rs i noRow h)
-
--- row i of the rows, r, is what the search from it on finds
-pub rowIn-hit : (rs : List Row) (kind code i : ℕ) (r : Row)
-    → i < length rs
-    → r ≡ getD rs i noRow
-    → isOf kind code r ≡ true
-    → rowIn (drop i rs) kind code ≡ Found r
-rowIn-hit rs kind code i r h e t = rw (rowIn-step rs kind code i h, ← e, t)
-
--- or the search goes on behind it
-pub rowIn-miss : (rs : List Row) (kind code i : ℕ) (r : Row)
-    → i < length rs
-    → r ≡ getD rs i noRow
-    → isOf kind code r ≡ false
-    → rowIn (drop i rs) kind code ≡ rowIn (drop (i + 1) rs) kind code
-rowIn-miss rs kind code i r h e t = rw (rowIn-step rs kind code i h, ← e, t, add-one)
-
--- past the last row nothing is found
-pub rowIn-none : (rs : List Row) (kind code i : ℕ) → length rs ≤ i → rowIn (drop i rs) kind code ≡ NoRow
-rowIn-none rs kind code i h = rw (drop-of-length-le rs h)
 
 -- a row that was found is of the kind and the code, and passes every test that all rows pass
 abbrev pub everyRow : (Row → Bool) → List Row → Bool
@@ -124,6 +116,74 @@ rowOf-every f kind code s t e = rowIn-every f table kind code s t e
 pub rowOf-codes : (kind code : ℕ) (s : Row) → rowOf kind code ≡ Found s → Between (s .codes) code
 unfolding rowOf
 rowOf-codes kind code s e = within-between _ _ (and-halves (eqb (s .kind) kind) (rowIn-is-of table kind code s e) .1)
+
+-- rows of known kinds have none of an unknown kind
+rowIn-unknown : (rs : List Row) (kind code : ℕ)
+    → everyRow (λ r. within kinds (r .kind)) rs ≡ true
+    → within kinds kind ≡ false
+    → rowIn rs kind code ≡ NoRow
+rowIn-unknown [] kind code t h = refl
+rowIn-unknown (r ∷ rs) kind code t h =
+    let p = and-halves (within kinds (r .kind)) t in
+    let n : eqb (r .kind) kind ≡ false =
+    false-unless (eqb (r .kind) kind) λ q. never (p .0) (ap (within kinds) (eqb-true (r .kind) kind q) ∙ h) in
+    rw n (rowIn-unknown rs kind code (p .1) h)
+
+-- ---- the one row that may be of a kind and a code
+
+-- row i is of the kind and the code, or none is
+abbrev pub OnlyAt : ℕ → ℕ → ℕ → Type 0
+OnlyAt kind code i = rowOf kind code ≡ rowIn (getD table i noRow ∷ []) kind code
+
+module _ (kind code : ℕ) where
+  pub only-unknown : within kinds kind ≡ false → OnlyAt kind code 0
+  unfolding rowOf table
+  only-unknown h = rowIn-unknown table kind code refl h ∙ sym (rowIn-unknown (getD table 0 noRow ∷ []) kind code refl h)
+
+  -- creditor and mandate
+  pub only-first : 1 ≤ kind → kind < 3 → OnlyAt kind code (kind - 1)
+  unfolding rowOf table
+  only-first l h =
+      each-case (OnlyAt kind code (kind - 1)) kind 1 2 l h (λ is1. rw is1, (λ is2. rw is2, tt))
+
+  -- amend with code 0
+  pub only-bank : eqb kind 3 && eqb code 0 ≡ true → OnlyAt kind code 2
+  unfolding rowOf table
+  only-bank t =
+      let p = and-halves (eqb kind 3) t in
+      rw (eqb-true kind 3 (p .0), eqb-true code 0 (p .1))
+
+  -- where row i is of the kind and the code, it is found
+  pub only-hit : (i : ℕ) (r : Row)
+      → OnlyAt kind code i
+      → r ≡ getD table i noRow
+      → isOf kind code r ≡ true
+      → rowOf kind code ≡ Found r
+  only-hit i r o e t = o ∙ rw (← e, t)
+
+  pub only-miss : (i : ℕ) (r : Row)
+      → OnlyAt kind code i
+      → r ≡ getD table i noRow
+      → isOf kind code r ≡ false
+      → rowOf kind code ≡ NoRow
+  only-miss i r o e t = o ∙ rw (← e, t)
+
+amend-other : (code : ℕ) → (code ≡ 0 → ⊥) → OnlyAt 3 code 3
+unfolding rowOf table
+amend-other code n = rw (le-leb 0 code (omega arith), lt-leb code 0 (omega (arith, n)))
+
+-- amend with another code, and the kinds behind it
+pub only-rest : (kind code : ℕ)
+    → 3 ≤ kind
+    → kind ≤ lastKind
+    → eqb kind 3 && eqb code 0 ≡ false
+    → OnlyAt kind code kind
+unfolding rowOf table
+only-rest kind code l h t =
+    each-case (OnlyAt kind code kind) kind 3 8 l (omega (arith, h)) (
+      λ is3. rw is3 (amend-other code (λ z. never (and-true (eq-eqb kind 3 is3) (eq-eqb code 0 z)) t)),
+      (λ is4. rw is4, (λ is5. rw is5, (λ is6. rw is6, (λ is7. rw is7, (λ is8. rw is8, (λ is9. rw is9, (λ is10. rw is10, tt))))))),
+    )
 
 -- ---- refusals 3, 4 and 5
 
@@ -370,17 +430,7 @@ pub reversal-facts : (e : Event) → Limited e → e .kind ≡ 10 → Collection
 unfolding rowOf table
 reversal-facts e = collection-of e 10 refl
 
--- ---- the cases on kind
-
--- what each of n numbers from i on gives where k is it
-abbrev pub Each : Type 0 → ℕ → ℕ → ℕ → Type 0
-Each P k i zero = Unit {0}
-Each P k i (suc n) = (k ≡ i → P) × Each P k (suc i) n
-
-each-case : (P : Type 0) (k i n : ℕ) → i ≤ k → k < i + n → Each P k i n → P
-each-case P k i zero l h f = absurd (omega arith)
-each-case P k i (suc n) l h f =
-    ⊎-elim (λ e. f .0 (sym e)) (λ g. each-case P k (suc i) n g (omega arith) (f .1)) (eq-or-lt-of-le l)
+-- ---- the cases on a known kind
 
 -- a known kind is 1, or 2, and so on to the last: `kind-cases P k h (λ is1. .., (λ is2. .., .. tt))`
 pub kind-cases : (P : Type 0) (k : ℕ) → Between kinds k → Each P k 1 lastKind → P
