@@ -11,6 +11,7 @@ use Rattle.events.specs.declared.Event.{Event}
 use Rattle.events.specs.declared.limits.Checked.the-variants.{Within}
 use Rattle.events.specs.Limits.{checked}
 use Rattle.events.specs.Line.{readLine, pasted}
+use Rattle.tables.specs.declared.Header.{Header}
 use Rattle.tables.specs.Ledger.{Ledger}
 use Rattle.model.specs.declared.Answer.{Answer}
 use Rattle.model.specs.declared.Answer.the-variants.{Accepted, Refused}
@@ -67,6 +68,9 @@ pub record LinesTold (s : Run) (text out : List ℕ) (r : Lines) (l' : Ledger) (
 -- refusal 2, or none
 abbrev pub fitAnswer : Bool → Answer
 fitAnswer fits = cond fits Accepted (Refused UnfitMemory)
+
+abbrev pub unfitPiece : Header → ℕ → ℕ → Piece
+unfitPiece h lines filled = record { answer = Refused UnfitMemory; header = h; lines = lines; begun = filled; told = 0 }
 
 -- where lent text and buffer fit, the run comes to s and writes the bytes t to the buffer; else nothing changes
 pub record Told (fits : Bool) (l : Ledger) (lines filled : ℕ) (out : List ℕ) (s : Run) (t : List ℕ) (r : Piece) (l' : Ledger) (out' : List ℕ) : Type 0 where

@@ -11,7 +11,7 @@ ghost use Rattle.model.specs.Step.{answerNumber};
 ghost use Rattle.report.specs.Layout.{answerLength};
 ghost use Rattle.report.specs.Run.{runAt, keptLength, kept};
 ghost use Rattle.book.specs.Events.{Taken};
-ghost use Rattle.book.specs.Text.{Sound, Known, LineTaken, Ready, LineTold, Roomy, LinesTold, PieceTaken, EndTaken};
+ghost use Rattle.book.specs.Text.{Sound, Known, LineTaken, Ready, LineTold, Roomy, LinesTold, unfitPiece, PieceTaken, EndTaken};
 use crate::Outcome;
 use crate::event::take_event;
 use crate::steps::act;
@@ -281,6 +281,19 @@ fn end_fits(filled: usize, long: usize, room: usize) -> bool
     (filled <= long) & (ANSWER <= room)
 }
 
+// Refusal 2, where lent text and buffer do not fit.
+fn unfit(header: Header, lines: u64, filled: usize) -> Piece
+    ensures { λ r. ⌜ r ≡ unfitPiece header lines filled ⌝ }
+{
+    Piece {
+        answer: Answer::Refused(Refusal::UnfitMemory),
+        header: header,
+        lines: lines,
+        begun: filled,
+        told: 0,
+    }
+}
+
 // Takes a piece of input, its first `filled` bytes: answers every line that has ended, and puts what is kept of the next
 // one to the front of the text. The memory is tested once.
 pub fn take_text(
@@ -300,13 +313,7 @@ pub fn take_text(
         (ledger (r .header) (now (mandates .exit)) (now (collections .exit)) (now (creditors .exit)) (now («creditor_positions» .exit)) (now («debtor_positions» .exit)) (now («bank_positions» .exit))) (now (text .exit)) (now (out .exit)) ⌝ }
 {
     if !piece_fits(filled, text.len(), out.len()) {
-        return Piece {
-            answer: Answer::Refused(Refusal::UnfitMemory),
-            header: header,
-            lines: lines,
-            begun: filled,
-            told: 0,
-        };
+        return unfit(header, lines, filled);
     }
     let known = is_safe(
         header,
@@ -360,13 +367,7 @@ pub fn end_text(
         (ledger (r .header) (now (mandates .exit)) (now (collections .exit)) (now (creditors .exit)) (now («creditor_positions» .exit)) (now («debtor_positions» .exit)) (now («bank_positions» .exit))) (now (out .exit)) ⌝ }
 {
     if !end_fits(filled, text.len(), out.len()) {
-        return Piece {
-            answer: Answer::Refused(Refusal::UnfitMemory),
-            header: header,
-            lines: lines,
-            begun: filled,
-            told: 0,
-        };
+        return unfit(header, lines, filled);
     }
     if filled == 0 {
         return Piece {

@@ -37,7 +37,7 @@ use Rattle.book.specs.declared.Outcome.{Outcome}
 use Rattle.book.specs.Events.{Taken}
 use Rattle.book.specs.declared.text.Progress.{Progress}
 use Rattle.book.specs.declared.text.Lines.{Lines}
-use Rattle.book.specs.Text.{Known, LineTaken, LineTold, LinesTold, pieceFits, PieceTaken, endFits, EndTaken}
+use Rattle.book.specs.Text.{Known, LineTaken, LineTold, LinesTold, unfitPiece, pieceFits, PieceTaken, endFits, EndTaken}
 
 -- ---- a line
 
@@ -260,7 +260,7 @@ module _ (filled : ℕ) (text out : List ℕ) (fits : pieceFits filled text out 
       omega (arith, piece-count, leb-true filled (length out / answerLength) (and-halves (leb filled (length text)) fits .1))
 
 module _ (l : Ledger) (lines filled : ℕ) (text out : List ℕ) where
-  pub piece-refused : (h : Header) → pieceFits filled text out ≡ false → PieceTaken l lines filled text out (record { answer = Refused UnfitMemory; header = h; lines = lines; begun = filled; told = 0 }) l text out
+  pub piece-refused : (h : Header) → pieceFits filled text out ≡ false → PieceTaken l lines filled text out (unfitPiece h lines filled) l text out
   piece-refused h f =
       record {
         told = record { answer-is = rw f; book-is = rw f; lines-are = rw f; begun-is = rw f; told-is = rw f; out-is = rw f };
@@ -300,7 +300,7 @@ module _ (filled : ℕ) (text out : List ℕ) (fits : endFits filled text out �
   end-room = leb-true answerLength (length out) (and-halves (leb filled (length text)) fits .1)
 
 module _ (l : Ledger) (lines filled : ℕ) (text out : List ℕ) (h : Header) where
-  pub end-refused : endFits filled text out ≡ false → EndTaken l lines filled text out (record { answer = Refused UnfitMemory; header = h; lines = lines; begun = filled; told = 0 }) l out
+  pub end-refused : endFits filled text out ≡ false → EndTaken l lines filled text out (unfitPiece h lines filled) l out
   end-refused f =
       record { answer-is = rw f; book-is = rw f; lines-are = rw f; begun-is = rw f; told-is = rw f; out-is = rw f }
 

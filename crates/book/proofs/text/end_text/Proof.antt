@@ -9,8 +9,11 @@ use Rattle.book.proofs.text.end_text.Tie as tie
 end-fits-requires : tie.Need-end-fits-requires
 end-fits-requires c κs = search needs
 
+unfit-requires : tie.Need-unfit-requires
+unfit-requires c κs = search needs
+
 returns : tie.Need-returns
-returns c = end-refused _ _ _ _ _ _ (sym (c .before .end-fits .ensures) ∙ not-true (c .if1 .taken))
+returns c = rw (c .unfit .ensures) (end-refused _ _ _ _ _ _ (sym (c .before .before .end-fits .ensures) ∙ not-true (c .before .if1 .taken)))
 
 returns-2 : tie.Need-returns-2
 returns-2 c = end-none _ _ _ _ _ _ (sym (c .before .before .end-fits .ensures) ∙ not-false (c .before .if1 .left)) (c .if2 .taken)
@@ -50,6 +53,7 @@ end-text-spec =
     tie.close
     (tie.spec
     end-fits-requires
+    unfit-requires
     returns
     returns-2
     slice-aggregate-end-line

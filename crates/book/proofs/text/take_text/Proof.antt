@@ -10,8 +10,11 @@ use Rattle.book.proofs.text.take_text.Tie as tie
 piece-fits-requires : tie.Need-piece-fits-requires
 piece-fits-requires c κs = search needs
 
+unfit-requires : tie.Need-unfit-requires
+unfit-requires c κs = search needs
+
 returns : tie.Need-returns
-returns c = piece-refused _ _ _ _ _ _ (sym (c .before .piece-fits .ensures) ∙ not-true (c .if1 .taken))
+returns c = rw (c .unfit .ensures) (piece-refused _ _ _ _ _ _ (sym (c .before .before .piece-fits .ensures) ∙ not-true (c .before .if1 .taken)))
 
 is-safe-requires : tie.Need-is-safe-requires
 is-safe-requires c κs = search needs
@@ -60,6 +63,7 @@ take-text-spec =
     tie.close
     (tie.spec
     piece-fits-requires
+    unfit-requires
     returns
     is-safe-requires
     slice-reshare-prefix-take-lines
