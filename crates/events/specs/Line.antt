@@ -144,6 +144,26 @@ readLine l =
     (taken (readFields widths 0 l))
     (lines.Refused BadLine)
 
+-- ---- reading into lent cells, one for each field
+
+-- the answer without its event
+abbrev pub checkedLine : LineAnswer → Checked
+checkedLine (lines.Taken e) = Within
+checkedLine (lines.Refused r) = Refused r
+
+-- the fields of the event, or the cells as they were
+abbrev pub cellsBy : LineAnswer → List ℕ → List ℕ
+cellsBy (lines.Taken e) cells = fieldsOf e
+cellsBy (lines.Refused r) cells = cells
+
+-- 2, then 1, 3, 4 and 5
+unfoldable pub cellsAnswer : List ℕ → List ℕ → Checked
+cellsAnswer l cells = cond (eqb (length cells) (length widths)) (checkedLine (readLine l)) (Refused UnfitMemory)
+
+-- the cells after the call
+unfoldable pub cellsAfter : List ℕ → List ℕ → List ℕ
+cellsAfter l cells = cond (eqb (length cells) (length widths)) (cellsBy (readLine l) cells) cells
+
 -- ---- writing to a lent buffer
 
 abbrev pub writtenOf : Checked → WriteAnswer

@@ -3,7 +3,7 @@ ghost use mathlib.Core.Path.{_≡_};
 ghost use mathlib.Core.List.{_++_};
 ghost use Prim.Native.Nat.{_+_, _≤_};
 ghost use lib.ListN.{length, take, drop};
-ghost use Rattle.events.specs.Line.{lineLength, widths, isDigit, readField, readNumber, readDigits, readFields, taken, answerOf, readLine, lastDigit, fieldBytes, pasted, lineOf, writeAnswer, bytesAfter};
+ghost use Rattle.events.specs.Line.{lineLength, widths, isDigit, readField, readNumber, readDigits, readFields, taken, answerOf, readLine, checkedLine, cellsBy, cellsAnswer, cellsAfter, lastDigit, fieldBytes, pasted, lineOf, writeAnswer, bytesAfter};
 ghost use Rattle.events.specs.Limits.{checked};
 use crate::Event;
 use crate::limits::Checked;
@@ -32,6 +32,8 @@ pub enum WriteAnswer {
 const COLUMNS: usize = 74;
 
 const LINE: usize = 75;
+
+const FIELDS: usize = 9;
 
 const LINE_END: u8 = 10;
 
@@ -109,72 +111,115 @@ fn field(line: &[u8], at: usize, width: usize) -> FieldAnswer
     number(&line[at..end])
 }
 
-// The event whose fields stand in a line, or refusal 1, 3, 4 or 5.
-fn fields(line: &[u8]) -> LineAnswer
-    requires { ⌜ length (now line) ≡ lineLength ⌝ }
-    ensures { λ r. ⌜ r ≡ taken (readFields widths 0 (now (line .entry))) ⌝ }
+// Reads the fields that stand in a line into nine cells, or changes nothing and gives refusal 1, 3, 4 or 5.
+fn fields(line: &[u8], cells: &mut [u64]) -> Checked
+    requires { ⌜ (length (now line) ≡ lineLength) × (length (now cells) ≡ length widths) ⌝ }
+    ensures answer { λ r. ⌜ r ≡ checkedLine (taken (readFields widths 0 (now (line .entry)))) ⌝ }
+    ensures cells { λ _. ⌜ now (cells .exit) ≡ cellsBy (taken (readFields widths 0 (now (line .entry)))) (now (cells .entry)) ⌝ }
 {
     let FieldAnswer::Value(kind) = field(line, 0, 2) else {
-        return LineAnswer::Refused(Refusal::BadLine);
+        return Checked::Refused(Refusal::BadLine);
     };
     let FieldAnswer::Value(date) = field(line, 2, 9) else {
-        return LineAnswer::Refused(Refusal::BadLine);
+        return Checked::Refused(Refusal::BadLine);
     };
     let FieldAnswer::Value(mandate) = field(line, 11, 10) else {
-        return LineAnswer::Refused(Refusal::BadLine);
+        return Checked::Refused(Refusal::BadLine);
     };
     let FieldAnswer::Value(a) = field(line, 21, 10) else {
-        return LineAnswer::Refused(Refusal::BadLine);
+        return Checked::Refused(Refusal::BadLine);
     };
     let FieldAnswer::Value(b) = field(line, 31, 10) else {
-        return LineAnswer::Refused(Refusal::BadLine);
+        return Checked::Refused(Refusal::BadLine);
     };
     let FieldAnswer::Value(c) = field(line, 41, 10) else {
-        return LineAnswer::Refused(Refusal::BadLine);
+        return Checked::Refused(Refusal::BadLine);
     };
     let FieldAnswer::Value(amount) = field(line, 51, 12) else {
-        return LineAnswer::Refused(Refusal::BadLine);
+        return Checked::Refused(Refusal::BadLine);
     };
     let FieldAnswer::Value(second) = field(line, 63, 9) else {
-        return LineAnswer::Refused(Refusal::BadLine);
+        return Checked::Refused(Refusal::BadLine);
     };
     let FieldAnswer::Value(code) = field(line, 72, 2) else {
-        return LineAnswer::Refused(Refusal::BadLine);
+        return Checked::Refused(Refusal::BadLine);
     };
-    judged(Event {
-        kind,
-        date,
-        mandate,
-        a,
-        b,
-        c,
-        amount,
-        second,
-        code,
-    })
+    judged(
+        Event {
+            kind,
+            date,
+            mandate,
+            a,
+            b,
+            c,
+            amount,
+            second,
+            code,
+        },
+        cells,
+    )
 }
 
-// An event that was read, or refusal 3, 4 or 5.
-fn judged(e: Event) -> LineAnswer
-    ensures { λ r. ⌜ r ≡ answerOf e (checked e) ⌝ }
+// Writes the fields of an event that was read into nine cells, or changes nothing and gives refusal 3, 4 or 5.
+fn judged(e: Event, cells: &mut [u64]) -> Checked
+    requires { ⌜ length (now cells) ≡ length widths ⌝ }
+    ensures answer { λ r. ⌜ r ≡ checked e ⌝ }
+    ensures cells { λ _. ⌜ now (cells .exit) ≡ cellsBy (answerOf e (checked e)) (now (cells .entry)) ⌝ }
 {
     match check(e) {
-        Checked::Within => LineAnswer::Taken(e),
-        Checked::Refused(r) => LineAnswer::Refused(r),
+        Checked::Refused(r) => Checked::Refused(r),
+        Checked::Within => {
+            cells[0] = e.kind;
+            cells[1] = e.date;
+            cells[2] = e.mandate;
+            cells[3] = e.a;
+            cells[4] = e.b;
+            cells[5] = e.c;
+            cells[6] = e.amount;
+            cells[7] = e.second;
+            cells[8] = e.code;
+            Checked::Within
+        }
     }
+}
+
+// Reads the event of a line into nine lent cells, its fields in their order, or changes nothing and gives refusal 1, 3, 4 or 5;
+// 2 where the cells are not nine.
+pub fn read_cells(line: &[u8], cells: &mut [u64]) -> Checked
+    ensures answer { λ r. ⌜ r ≡ cellsAnswer (now (line .entry)) (now (cells .entry)) ⌝ }
+    ensures cells { λ _. ⌜ now (cells .exit) ≡ cellsAfter (now (line .entry)) (now (cells .entry)) ⌝ }
+{
+    if cells.len() != FIELDS {
+        return Checked::Refused(Refusal::UnfitMemory);
+    }
+    if line.len() != LINE {
+        return Checked::Refused(Refusal::BadLine);
+    }
+    if line[COLUMNS] != LINE_END {
+        return Checked::Refused(Refusal::BadLine);
+    }
+    fields(line, cells)
 }
 
 // The event of a line, or refusal 1, 3, 4 or 5.
 pub fn read(line: &[u8]) -> LineAnswer
     ensures { λ r. ⌜ r ≡ readLine (now (line .entry)) ⌝ }
 {
-    if line.len() != LINE {
-        return LineAnswer::Refused(Refusal::BadLine);
+    let mut cells = [0; FIELDS];
+    match read_cells(line, &mut cells) {
+        Checked::Refused(r) => LineAnswer::Refused(r),
+        Checked::Within => LineAnswer::Taken(Event {
+            kind: cells[0],
+            date: cells[1],
+            mandate: cells[2],
+            a: cells[3],
+            b: cells[4],
+            c: cells[5],
+            amount: cells[6],
+            second: cells[7],
+            code: cells[8],
+        }),
     }
-    if line[COLUMNS] != LINE_END {
-        return LineAnswer::Refused(Refusal::BadLine);
-    }
-    fields(line)
 }
 
 // The byte of the last digit of v.

@@ -10,7 +10,7 @@ use native.Mathlib.Nat.{pow-succ', one-le-pow, eq-zero-or-pos, eq-or-lt-of-le, a
 use native.Mathlib.Numerals.{add-one}
 use native.Mathlib.Omega.{arith}
 use lib.Dec.{leb, ltb, eqb, lit<}
-use lib.ListN.{length, take, drop, getD, set, length-append, length-drop, take-append-drop, drop-of-length-le}
+use lib.ListN.{length, take, drop, getD, set, length-append, length-drop, length-set, take-append-drop, drop-of-length-le}
 use lib.Seq.{drop-cons, take-at, drop-at, set-at, take-set-le, lt-length-set, getD-set-same, drop-set-lt, drop-drop, take-add, length-take-le}
 use borrow.Author.Tests.{leb-true, le-leb, lt-leb, ltb-true, ltb-false, lt-ltb, le-ltb, eqb-true, eqb-false, eq-eqb, ne-eqb}
 use Rattle.common.proofs.Tests.{never, and-halves, and-true, true-or-false, false-unless}
@@ -20,13 +20,15 @@ use Rattle.events.specs.declared.Event.{Event}
 use Rattle.events.specs.declared.limits.Row.{Row}
 use Rattle.refusals.specs.declared.Refusal.{Refusal}
 use Rattle.refusals.specs.declared.Refusal.the-variants.{BadLine, UnfitMemory}
+use Rattle.events.specs.declared.limits.Checked.{Checked}
+use Rattle.events.specs.declared.limits.Checked.the-variants.{Within, Refused}
 use Rattle.events.specs.declared.line.LineAnswer.the-variants as lines
 use Rattle.events.specs.declared.line.WriteAnswer.the-variants as writes
 use Rattle.events.specs.declared.line.FieldAnswer.{FieldAnswer}
 use Rattle.events.specs.declared.line.FieldAnswer.the-variants.{Value, NoValue}
 use Rattle.events.proofs.Laws.Limits.{Limited, everyRow, rowOf-every, rowOf-codes, second-le}
 use Rattle.events.specs.Limits.{table, lastKind, checked}
-use Rattle.events.specs.Line.{widths, columns, lineLength, lineEnd, lineOf, taken, readLine, writtenOf, writeAnswer, bytesAfter, fieldsOf, eventOf, pasted, blank, zeroDigit, lastDigit, padded, fieldBytes, fieldsBytes, isDigit, readDigits, readNumber, readField, Fields, Values, Unreadable, joined, readFields}
+use Rattle.events.specs.Line.{widths, columns, lineLength, lineEnd, lineOf, answerOf, taken, readLine, checkedLine, cellsBy, cellsAnswer, cellsAfter, writtenOf, writeAnswer, bytesAfter, fieldsOf, eventOf, pasted, blank, zeroDigit, lastDigit, padded, fieldBytes, fieldsBytes, isDigit, readDigits, readNumber, readField, Fields, Values, Unreadable, joined, readFields}
 
 -- ---- powers of ten
 
@@ -456,6 +458,25 @@ entries-drop vs i (suc n) h =
 pub fieldsOf-eventOf : (vs : List ℕ) → length vs ≡ length widths → fieldsOf (eventOf vs) ≡ vs
 fieldsOf-eventOf vs h = entries-drop vs 0 9 h
 
+-- ---- the cells of an event
+
+-- cells after values were stored one after the other from i on
+abbrev pub stored : List ℕ → ℕ → List ℕ → List ℕ
+stored l i [] = l
+stored l i (v ∷ vs) = stored (set l i v) (i + 1) vs
+
+length-stored : (l : List ℕ) (i : ℕ) (vs : List ℕ) → length (stored l i vs) ≡ length l
+length-stored l i [] = refl
+length-stored l i (v ∷ vs) = length-stored (set l i v) (i + 1) vs ∙ length-set l i v
+
+-- stores keep the number of cells
+pub cell-within : (l vs : List ℕ) (i : ℕ) → length l ≡ length widths → i < length widths → i < length (stored l 0 vs)
+cell-within l vs i h k = omega (arith, length-stored l 0 vs)
+
+-- nine cells hold the nine fields that were stored
+pub cells-stored : (e : Event) (l : List ℕ) → length l ≡ length widths → stored l 0 (fieldsOf e) ≡ fieldsOf e
+cells-stored e l h = ap (λ (m : List ℕ). stored m 0 (fieldsOf e)) (sym (fieldsOf-eventOf l h))
+
 -- ---- reading from a place i of a field on
 
 module _ (l : List ℕ) (i : ℕ) where
@@ -545,6 +566,28 @@ pub after-none : (vs ws l : List ℕ) (at w : ℕ)
     → after vs (readFields (w ∷ ws) at l) ≡ Unreadable
 after-none vs ws l at w e =
     ap (λ (a : FieldAnswer). after vs (joined a (readFields ws (at + w) l))) e ∙ after-unreadable vs
+
+-- a field that cannot be read leaves the cells as they were
+pub cells-unreadable : (l cells : List ℕ)
+    → readFields widths 0 l ≡ Unreadable
+    → (Refused BadLine ≡ checkedLine (taken (readFields widths 0 l))) × (cells ≡ cellsBy (taken (readFields widths 0 l)) cells)
+cells-unreadable l cells p =
+    (ap (λ (f : Fields). checkedLine (taken f)) (sym p), ap (λ (f : Fields). cellsBy (taken f) cells) (sym p))
+
+checkedLine-answerOf : (e : Event) (c : Checked) → c ≡ checkedLine (answerOf e c)
+checkedLine-answerOf e Within = refl
+checkedLine-answerOf e (Refused r) = refl
+
+-- fields that were read go by the limits of their event
+pub cells-values : (l cells next vs : List ℕ) (r : Checked)
+    → readFields widths 0 l ≡ Values vs
+    → r ≡ checked (eventOf vs)
+    → next ≡ cellsBy (answerOf (eventOf vs) (checked (eventOf vs))) cells
+    → (r ≡ checkedLine (taken (readFields widths 0 l))) × (next ≡ cellsBy (taken (readFields widths 0 l)) cells)
+cells-values l cells next vs r p q h = (
+  q ∙ checkedLine-answerOf (eventOf vs) (checked (eventOf vs)) ∙ ap (λ (f : Fields). checkedLine (taken f)) (sym p),
+  h ∙ ap (λ (f : Fields). cellsBy (taken f) cells) (sym p),
+)
 
 -- ---- the buffer as a field is written to it, from its right edge on
 
@@ -679,7 +722,7 @@ pub lineOf-front : (e : Event) (r : List ℕ)
 unfolding lineOf
 lineOf-front e r = simp (append-assoc, append-nil)
 
--- ---- readLine, writeAnswer, bytesAfter
+-- ---- readLine, cellsAnswer, cellsAfter, writeAnswer, bytesAfter
 
 module _ (l : List ℕ) where
   pub readLine-length : (length l ≡ lineLength → ⊥) → readLine l ≡ lines.Refused BadLine
@@ -693,6 +736,18 @@ module _ (l : List ℕ) where
   pub readLine-fields : length l ≡ lineLength → getD l columns 0 ≡ lineEnd → readLine l ≡ taken (readFields widths 0 l)
   unfolding readLine
   readLine-fields e g = rw (eq-eqb (length l) lineLength e, eq-eqb (getD l columns 0) lineEnd g)
+
+module _ (l cells : List ℕ) where
+  pub cells-unfit : (length cells ≡ length widths → ⊥)
+      → (cellsAnswer l cells ≡ Refused UnfitMemory) × (cellsAfter l cells ≡ cells)
+  unfolding cellsAnswer cellsAfter
+  cells-unfit n = (rw (ne-eqb (length cells) (length widths) n), rw (ne-eqb (length cells) (length widths) n))
+
+  -- nine cells go by the answer of the line
+  pub cells-line : length cells ≡ length widths
+      → (cellsAnswer l cells ≡ checkedLine (readLine l)) × (cellsAfter l cells ≡ cellsBy (readLine l) cells)
+  unfolding cellsAnswer cellsAfter
+  cells-line e = (rw (eq-eqb (length cells) (length widths) e), rw (eq-eqb (length cells) (length widths) e))
 
 module _ (e : Event) (out : List ℕ) where
   pub writeAnswer-short : length out < lineLength → writeAnswer e out ≡ writes.Refused UnfitMemory

@@ -1,19 +1,19 @@
 -- `fields` reads field by field. At each place: the line, the values that were read of it, and that they and what is
 -- still to be read are all that is read of it. Assumes nothing.
-use Rattle.events.proofs.Laws.Line.{after, after-value, after-none}
-use Rattle.events.specs.Line.{widths, readFields, taken}
+use Rattle.events.proofs.Laws.Line.{after, after-value, after-none, cells-unreadable, cells-values}
+use Rattle.events.specs.Line.{widths, readFields}
 use lib.ListN.{drop}
 use lib.Dec.{lit≤}
 use native.Mathlib.Omega.{arith}
 use Prim.Native.Nat.{ℕ}
 use mathlib.Core.List.{List, [], _∷_, _++_}
-use mathlib.Core.Path.{_≡_, sym, ap, _∙_}
+use mathlib.Core.Path.{_≡_, sym, _∙_}
 use borrow.Author.Needs.{needs}
 use Rattle.events.proofs.line.fields.Statement.{statement}
 use Rattle.events.proofs.line.fields.Tie as tie
 
 abbrev start1 : tie.After-known-told → tie.Start
-start1 c = c .before .before .before .before .before
+start1 c = c .before .before .before .before .before .before
 
 abbrev line1 : tie.After-known-told → List ℕ
 line1 c = start1 c .args .line .now
@@ -175,10 +175,10 @@ enum-told c = search needs
 
 returns : tie.Need-returns
 returns c =
-    ap taken
-    (sym
-    (after-none [] (drop 1 widths) (c .before .before .before .before .args .line .now) 0 2
-    (sym (c .before .before .field .ensures) ∙ c .enum-told .given .1)))
+    let s = c .before .before .before .before .before in
+    cells-unreadable (s .args .line .now) (s .args .cells .now)
+    (after-none [] (drop 1 widths) (c .before .before .before .before .before .args .line .now) 0 2
+    (sym (c .before .before .field .ensures) ∙ c .enum-told .given .1))
 
 field-requires-2 : tie.Need-field-requires-2
 field-requires-2 c κs = search needs
@@ -191,11 +191,11 @@ enum-told-2 c = search needs
 
 returns-2 : tie.Need-returns-2
 returns-2 c =
-    ap taken
-    (sym
+    let s = start1 (c .before .before .before) in
+    cells-unreadable (s .args .line .now) (s .args .cells .now)
     (after1 (c .before .before .before)
     ∙ after-none (values1 (c .before .before .before)) (drop 2 widths) (line1 (c .before .before .before)) 2 9
-    (sym (c .before .before .field2 .ensures) ∙ c .enum-told2 .given .1)))
+    (sym (c .before .before .field2 .ensures) ∙ c .enum-told2 .given .1))
 
 field-requires-3 : tie.Need-field-requires-3
 field-requires-3 c κs = search needs
@@ -208,11 +208,11 @@ enum-told-3 c = search needs
 
 returns-3 : tie.Need-returns-3
 returns-3 c =
-    ap taken
-    (sym
+    let s = start2 (c .before .before .before) in
+    cells-unreadable (s .args .line .now) (s .args .cells .now)
     (after2 (c .before .before .before)
     ∙ after-none (values2 (c .before .before .before)) (drop 3 widths) (line2 (c .before .before .before)) 11 10
-    (sym (c .before .before .field3 .ensures) ∙ c .enum-told3 .given .1)))
+    (sym (c .before .before .field3 .ensures) ∙ c .enum-told3 .given .1))
 
 field-requires-4 : tie.Need-field-requires-4
 field-requires-4 c κs = search needs
@@ -225,11 +225,11 @@ enum-told-4 c = search needs
 
 returns-4 : tie.Need-returns-4
 returns-4 c =
-    ap taken
-    (sym
+    let s = start3 (c .before .before .before) in
+    cells-unreadable (s .args .line .now) (s .args .cells .now)
     (after3 (c .before .before .before)
     ∙ after-none (values3 (c .before .before .before)) (drop 4 widths) (line3 (c .before .before .before)) 21 10
-    (sym (c .before .before .field4 .ensures) ∙ c .enum-told4 .given .1)))
+    (sym (c .before .before .field4 .ensures) ∙ c .enum-told4 .given .1))
 
 field-requires-5 : tie.Need-field-requires-5
 field-requires-5 c κs = search needs
@@ -242,11 +242,11 @@ enum-told-5 c = search needs
 
 returns-5 : tie.Need-returns-5
 returns-5 c =
-    ap taken
-    (sym
+    let s = start4 (c .before .before .before) in
+    cells-unreadable (s .args .line .now) (s .args .cells .now)
     (after4 (c .before .before .before)
     ∙ after-none (values4 (c .before .before .before)) (drop 5 widths) (line4 (c .before .before .before)) 31 10
-    (sym (c .before .before .field5 .ensures) ∙ c .enum-told5 .given .1)))
+    (sym (c .before .before .field5 .ensures) ∙ c .enum-told5 .given .1))
 
 field-requires-6 : tie.Need-field-requires-6
 field-requires-6 c κs = search needs
@@ -259,14 +259,14 @@ enum-told-6 c = search needs
 
 returns-6 : tie.Need-returns-6
 returns-6 c =
-    ap taken
-    (sym
+    let s = start5 (c .before .before .before) in
+    cells-unreadable (s .args .line .now) (s .args .cells .now)
     (after5 (c .before .before .before)
     ∙ after-none (values5 (c .before .before .before)) (drop 6 widths) (line5 (c .before .before .before)) 41 10
-    (sym (c .before .before .field6 .ensures) ∙ c .enum-told6 .given .1)))
+    (sym (c .before .before .field6 .ensures) ∙ c .enum-told6 .given .1))
 
 field-requires-7 : tie.Need-field-requires-7
-field-requires-7 c κs = search needs
+field-requires-7 c κs = (omega (arith, start6 c .pre .0), lit≤ tt)
 
 enum-known-amount : tie.Need-enum-known-amount
 enum-known-amount c = search needs
@@ -276,14 +276,14 @@ enum-told-7 c = search needs
 
 returns-7 : tie.Need-returns-7
 returns-7 c =
-    ap taken
-    (sym
+    let s = start6 (c .before .before .before) in
+    cells-unreadable (s .args .line .now) (s .args .cells .now)
     (after6 (c .before .before .before)
     ∙ after-none (values6 (c .before .before .before)) (drop 7 widths) (line6 (c .before .before .before)) 51 12
-    (sym (c .before .before .field7 .ensures) ∙ c .enum-told7 .given .1)))
+    (sym (c .before .before .field7 .ensures) ∙ c .enum-told7 .given .1))
 
 field-requires-8 : tie.Need-field-requires-8
-field-requires-8 c κs = (omega (arith, start7 c .pre), lit≤ tt)
+field-requires-8 c κs = (omega (arith, start7 c .pre .0), lit≤ tt)
 
 enum-known-second : tie.Need-enum-known-second
 enum-known-second c = search needs
@@ -293,14 +293,14 @@ enum-told-8 c = search needs
 
 returns-8 : tie.Need-returns-8
 returns-8 c =
-    ap taken
-    (sym
+    let s = start7 (c .before .before .before) in
+    cells-unreadable (s .args .line .now) (s .args .cells .now)
     (after7 (c .before .before .before)
     ∙ after-none (values7 (c .before .before .before)) (drop 8 widths) (line7 (c .before .before .before)) 63 9
-    (sym (c .before .before .field8 .ensures) ∙ c .enum-told8 .given .1)))
+    (sym (c .before .before .field8 .ensures) ∙ c .enum-told8 .given .1))
 
 field-requires-9 : tie.Need-field-requires-9
-field-requires-9 c κs = (omega (arith, start8 c .pre), lit≤ tt)
+field-requires-9 c κs = (omega (arith, start8 c .pre .0), lit≤ tt)
 
 enum-known-code : tie.Need-enum-known-code
 enum-known-code c = search needs
@@ -310,17 +310,26 @@ enum-told-9 c = search needs
 
 returns-9 : tie.Need-returns-9
 returns-9 c =
-    ap taken
-    (sym
+    let s = start8 (c .before .before .before) in
+    cells-unreadable (s .args .line .now) (s .args .cells .now)
     (after8 (c .before .before .before)
     ∙ after-none (values8 (c .before .before .before)) (drop 9 widths) (line8 (c .before .before .before)) 72 2
-    (sym (c .before .before .field9 .ensures) ∙ c .enum-told9 .given .1)))
+    (sym (c .before .before .field9 .ensures) ∙ c .enum-told9 .given .1))
 
 judged-requires : tie.Need-judged-requires
-judged-requires c κs = search needs
+judged-requires c κs = start9 (c .before) .pre .1
+
+same-length : tie.Need-same-length
+same-length c = search needs
 
 returns-10 : tie.Need-returns-10
-returns-10 c = c .judged .ensures ∙ ap taken (sym (after9 (c .before)))
+returns-10 c =
+    let k = c .before .before .before .before in
+    let s = start9 k in
+    cells-values (s .args .line .now) (s .args .cells .now) _ (values9 k) _
+    (after9 k)
+    (c .before .before .judged .ensures .0)
+    (c .before .before .judged .ensures .1)
 
 pub fields-spec : {M : Type 1} → statement M
 fields-spec =
@@ -363,4 +372,5 @@ fields-spec =
     enum-told-9
     returns-9
     judged-requires
+    same-length
     returns-10)
