@@ -1,4 +1,5 @@
 // The ledger: the calls for the ten events and for a text of them, the position query, and replay. Every contract is an equation with the model.
+mod cells;
 mod collect;
 mod creditors;
 pub mod event;

@@ -1,38 +1,16 @@
 // Replay: a lent list of events on a ledger that is opened first: specs/Replay.
 ghost use mathlib.Core.Path.{_≡_};
-ghost use Prim.Native.Nat.{_/_, _<_};
-ghost use lib.ListN.{length};
 ghost use Rattle.tables.specs.Ledger.{ledger};
 ghost use Rattle.model.specs.Step.{run};
 ghost use Rattle.model.proofs.Laws.Invariant.{Safe};
-ghost use Rattle.book.specs.Replay.{eventCells, eventAt, eventsIn, Replayed};
+ghost use Rattle.book.specs.Replay.{eventsIn, Replayed};
+use crate::cells::EVENT_CELLS;
+use crate::cells::event_at;
 use crate::steps::take_fit;
-use events::Event;
 use tables::Header;
 use tables::OpenAnswer;
 use tables::OpenOutcome;
 use tables::opening::open_ledger;
-
-const EVENT_CELLS: usize = 9;
-
-// The event at a place of the list.
-fn event_at(events: &[u64], i: usize) -> Event
-    requires { ⌜ i < length (now events) / eventCells ⌝ }
-    ensures { λ r. ⌜ r ≡ eventAt (now (events .entry)) i ⌝ }
-{
-    let b = i * EVENT_CELLS;
-    Event {
-        kind: events[b],
-        date: events[b + 1],
-        mandate: events[b + 2],
-        a: events[b + 3],
-        b: events[b + 4],
-        c: events[b + 5],
-        amount: events[b + 6],
-        second: events[b + 7],
-        code: events[b + 8],
-    }
-}
 
 // The events one after the other. The tables were tested once, and every event keeps them fit.
 fn run_events(

@@ -13,10 +13,13 @@ ghost use Rattle.report.specs.Run.{runAt, keptLength, kept};
 ghost use Rattle.book.specs.Events.{Taken};
 ghost use Rattle.book.specs.Text.{Sound, Known, LineTaken, Ready, LineTold, Roomy, LinesTold, unfitPiece, PieceTaken, EndTaken};
 use crate::Outcome;
+use crate::cells::EVENT_CELLS;
+use crate::cells::event_at;
 use crate::event::take_event;
 use crate::steps::act;
 use events::Event;
-use events::line::LineAnswer;
+use events::limits::Checked;
+use events::line::read_cells;
 use model::Answer;
 use refusals::Refusal;
 use refusals::number_of;
@@ -124,15 +127,16 @@ fn take_line(
     ensures { λ r. ⌜ LineTaken (ledger header (now (mandates .entry)) (now (collections .entry)) (now (creditors .entry)) (now («creditor_positions» .entry)) (now («debtor_positions» .entry)) (now («bank_positions» .entry))) (now (line .entry)) r
         (ledger (r .header) (now (mandates .exit)) (now (collections .exit)) (now (creditors .exit)) (now («creditor_positions» .exit)) (now («debtor_positions» .exit)) (now («bank_positions» .exit))) ⌝ }
 {
-    match events::line::read(line) {
-        LineAnswer::Refused(r) => Outcome {
+    let mut cells = [0; EVENT_CELLS];
+    match read_cells(line, &mut cells) {
+        Checked::Refused(r) => Outcome {
             answer: Answer::Refused(r),
             header: header,
         },
-        LineAnswer::Taken(e) => take_sound(
+        Checked::Within => take_sound(
             known,
             header,
-            e,
+            event_at(&cells, 0),
             mandates,
             collections,
             creditors,

@@ -1,4 +1,4 @@
--- Laws of specs/Text, for the functions of src/text.rt in their order. To cite: `line-refused`, `line-taken`; `told-none`, `told-line`;
+-- Laws of specs/Text, for the functions of src/text.rt in their order. To cite: `line-refused`, `line-taken`, `line-event`; `told-none`, `told-line`;
 -- `Telling` with `telling-start`, `telling-line`, `telling-end`. Assumes nothing.
 use mathlib.Core.Path.{_≡_, refl, sym, ap, _∙_}
 use mathlib.Core.Bool.{Bool, true, false, cond}
@@ -18,9 +18,13 @@ use Rattle.refusals.specs.Refusals.{numberOf}
 use Rattle.refusals.specs.declared.Refusal.the-variants.{UnfitMemory}
 use Rattle.refusals.proofs.Laws.Refusals.{numberOf-most}
 use Rattle.events.specs.declared.Event.{Event}
+use Rattle.events.specs.declared.limits.Checked.{Checked}
+use Rattle.events.specs.declared.limits.Checked.the-variants as events
 use Rattle.events.specs.declared.line.LineAnswer.{LineAnswer}
 use Rattle.events.specs.declared.line.LineAnswer.the-variants as lines
-use Rattle.events.specs.Line.{lineEnd, readLine, pasted}
+use Rattle.events.specs.Limits.{checked}
+use Rattle.events.specs.Line.{fieldsOf, lineEnd, readLine, cellsAnswer, cellsAfter, pasted}
+use Rattle.events.proofs.Laws.Promises.{cells-taken}
 use Rattle.tables.specs.declared.Header.{Header}
 use Rattle.tables.specs.Ledger.{Ledger}
 use Rattle.model.specs.declared.Answer.{Answer}
@@ -35,11 +39,28 @@ use Rattle.report.proofs.Laws.Layout.{length-answerLine, pasted-next, answerFit
 use Rattle.report.proofs.Laws.Run.{Answering, answering-start, answering-line, rest-after, rest-told}
 use Rattle.book.specs.declared.Outcome.{Outcome}
 use Rattle.book.specs.Events.{Taken}
+use Rattle.book.specs.Replay.{eventAt}
 use Rattle.book.specs.declared.text.Progress.{Progress}
 use Rattle.book.specs.declared.text.Lines.{Lines}
 use Rattle.book.specs.Text.{Known, LineTaken, LineTold, LinesTold, unfitPiece, pieceFits, PieceTaken, endFits, EndTaken}
 
 -- ---- a line
+
+event-fields : (x : Event) → eventAt (fieldsOf x) 0 ≡ x
+unfolding eventAt
+event-fields x = refl
+
+-- the event of a line, by way of the cells that it was read into
+pub line-event : (line cells cells' : List ℕ) (a : Checked) (e : Event)
+    → a ≡ cellsAnswer line cells
+    → cells' ≡ cellsAfter line cells
+    → a ≡ events.Within
+    → e ≡ eventAt cells' 0
+    → (readLine line ≡ lines.Taken e) × (checked e ≡ events.Within)
+line-event line cells cells' a e p q w g =
+    let t = cells-taken line cells (sym p ∙ w) in
+    let i : e ≡ t .event = g ∙ ap (λ (x : List ℕ). eventAt x 0) (q ∙ t .is-cells) ∙ event-fields (t .event) in
+    (t .is-read ∙ ap lines.Taken (sym i), ap checked i ∙ t .is-within)
 
 module _ (l : Ledger) (line : List ℕ) where
   pub line-refused : (h : Header) (x : Refusal) → readLine line ≡ lines.Refused x → LineTaken l line (record { answer = Refused x; header = h }) l

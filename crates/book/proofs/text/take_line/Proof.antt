@@ -1,26 +1,35 @@
 -- `take_line` meets its contract: what the reader refuses, or what the ledger did with the event.
 -- Assumes nothing.
-use mathlib.Core.Path.{sym, _∙_}
-use Rattle.events.proofs.Laws.Promises.{only-within-is-taken}
-use Rattle.book.proofs.Laws.Text.{line-refused, line-taken}
+use mathlib.Core.Path.{refl, sym, _∙_}
+use Rattle.events.proofs.Laws.Promises.{cells-refused}
+use Rattle.book.proofs.Laws.Text.{line-refused, line-taken, line-event}
 use borrow.Author.Needs.{needs}
 use Rattle.book.proofs.text.take_line.Statement.{statement}
 use Rattle.book.proofs.text.take_line.Tie as tie
 
-read-requires : tie.Need-read-requires
-read-requires c κs = search needs
+slice-aggregate-read-cells : tie.Need-slice-aggregate-read-cells
+slice-aggregate-read-cells c = search needs
+
+read-cells-requires : tie.Need-read-cells-requires
+read-cells-requires c κs = search needs
 
 enum-known-r : tie.Need-enum-known-r
 enum-known-r c = search needs
 
-enum-known-e : tie.Need-enum-known-e
-enum-known-e c = search needs
+enum-told : tie.Need-enum-told
+enum-told c = search needs
+
+slice-aggregate-event-at : tie.Need-slice-aggregate-event-at
+slice-aggregate-event-at c = search needs
+
+event-at-requires : tie.Need-event-at-requires
+event-at-requires c κs = search needs
 
 take-sound-requires : tie.Need-take-sound-requires
-take-sound-requires c κs = record { tested = c .before .before .before .before .before .before .before .before .before .before .before .before .before .before .pre; is-within = only-within-is-taken _ _ (sym (c .before .before .before .before .before .before .before .before .before .read .ensures) ∙ c .before .before .before .before .before .before .before .e .given .1) }
+take-sound-requires c κs = record { tested = c .before .before .before .before .before .before .before .before .before .before .before .before .before .before .before .before .before .pre; is-within = line-event (c .before .before .before .before .before .before .before .before .before .before .before .before .before .before .before .before .before .args .line .now) _ _ _ _ (c .before .before .before .before .before .before .before .before .before .before .before .read-cells .ensures .0) (c .before .before .before .before .before .before .before .before .before .before .before .read-cells .ensures .1) (c .before .before .before .before .before .before .before .before .enum-told .given .1) (c .before .before .before .before .before .before .event-at .ensures) .1 }
 
 returns : tie.Need-returns
-returns c = line-refused _ _ _ _ (sym (c .before .before .before .read .ensures) ∙ c .before .r .given .1)
+returns c = line-refused _ _ _ _ (cells-refused _ _ _ refl (sym (c .before .before .before .before .read-cells .ensures .0) ∙ c .before .r .given .1) .0)
 
 same-length : tie.Need-same-length
 same-length c = search needs
@@ -41,15 +50,18 @@ same-length-6 : tie.Need-same-length-6
 same-length-6 c = search needs
 
 returns-2 : tie.Need-returns-2
-returns-2 c = line-taken _ _ _ _ _ (sym (c .before .before .before .before .before .before .before .before .before .before .before .before .before .before .before .before .before .before .before .read .ensures) ∙ c .before .before .before .before .before .before .before .before .before .before .before .before .before .before .before .before .before .e .given .1) (c .before .before .before .before .before .before .before .before .before .take-sound .ensures)
+returns-2 c = line-taken _ _ _ _ _ (line-event (c .before .before .before .before .before .before .before .before .before .before .before .before .before .before .before .before .before .before .before .before .before .before .before .before .before .before .before .args .line .now) _ _ _ _ (c .before .before .before .before .before .before .before .before .before .before .before .before .before .before .before .before .before .before .before .before .before .read-cells .ensures .0) (c .before .before .before .before .before .before .before .before .before .before .before .before .before .before .before .before .before .before .before .before .before .read-cells .ensures .1) (c .before .before .before .before .before .before .before .before .before .before .before .before .before .before .before .before .before .before .enum-told .given .1) (c .before .before .before .before .before .before .before .before .before .before .before .before .before .before .before .before .event-at .ensures) .0) (c .before .before .before .before .before .before .before .before .before .take-sound .ensures)
 
 pub take-line-spec : {M : Type 1} → statement M
 take-line-spec =
     tie.close
     (tie.spec
-    read-requires
+    slice-aggregate-read-cells
+    read-cells-requires
     enum-known-r
-    enum-known-e
+    enum-told
+    slice-aggregate-event-at
+    event-at-requires
     take-sound-requires
     returns
     same-length

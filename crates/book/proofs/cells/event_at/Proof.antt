@@ -3,8 +3,8 @@
 use mathlib.Core.Path.{refl}
 use Rattle.book.specs.Replay.{eventAt}
 use borrow.Author.Needs.{needs}
-use Rattle.book.proofs.replay.event_at.Statement.{statement}
-use Rattle.book.proofs.replay.event_at.Tie as tie
+use Rattle.book.proofs.cells.event_at.Statement.{statement}
+use Rattle.book.proofs.cells.event_at.Tie as tie
 
 mul-b : tie.Need-mul-b
 mul-b c = search needs
