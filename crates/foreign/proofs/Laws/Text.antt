@@ -1,13 +1,12 @@
 -- The call for a text of events over lent cells, from book's. To cite: `text-refused`, `text-taken`. Assumes nothing.
-use mathlib.Core.Path.{_≡_, refl, sym, ap, subst, _∙_}
-use mathlib.Core.Bool.{Bool, true, false, cond, _&&_}
+use mathlib.Core.Path.{_≡_, ap, subst, _∙_}
+use mathlib.Core.Bool.{Bool, true, false, cond}
 use mathlib.Core.List.{List, [], _∷_}
 use Prim.Native.Nat.{ℕ}
 use lib.IntN.{ℤ}
 use lib.ListN.{length}
 use lib.Seq.{sets}
 use Rattle.refusals.specs.declared.Refusal.{Refusal}
-use Rattle.refusals.specs.declared.Refusal.the-variants.{UnfitMemory}
 use Rattle.refusals.specs.Refusals.{numberOf}
 use Rattle.tables.specs.declared.Header.{Header}
 use Rattle.tables.specs.Ledger.{Ledger, ledger}
@@ -16,7 +15,7 @@ use Rattle.model.specs.declared.Answer.the-variants.{Accepted, Refused}
 use Rattle.model.specs.Step.{answerNumber}
 use Rattle.report.specs.Run.{Run}
 use Rattle.book.specs.declared.text.Piece.{Piece}
-use Rattle.book.specs.Text.{pieceFits, pieceRun, pieceTold, textAfter, fitAnswer, Told, PieceTaken}
+use Rattle.book.specs.Text.{pieceFits, pieceRun, pieceTold, textAfter, Told, PieceTaken}
 use Rattle.foreign.specs.Cells.{cellsFit, headerIn, linesIn, filledIn, stateOf}
 use Rattle.foreign.specs.Text.{pieceState, pieceCents, isAccepted, CellsPut, AnswerPut, Ran, TextTaken}
 use Rattle.foreign.proofs.Laws.Cells.{state-length, cents-length, sets-whole}
