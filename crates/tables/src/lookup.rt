@@ -29,7 +29,7 @@ fn in_four(cells: &[u64], row: usize, number: u64) -> bool
         | (cells[b + 3 * STRIDE] == number)
 }
 
-// A row before which none of the first n has the number: eight are passed over a turn, with one branch.
+// A row before which none has the number: eight rows are passed over a turn, with one branch.
 fn skip(cells: &[u64], n: usize, number: u64) -> usize
     requires { ⌜ n ≤ rows (now cells) ⌝ }
     ensures { λ r. ⌜ firstFrom (numberIs (now (cells .entry)) number) At Nothing r (n - r) ≡ firstFrom (numberIs (now (cells .entry)) number) At Nothing 0 n ⌝ }
@@ -44,7 +44,7 @@ fn skip(cells: &[u64], n: usize, number: u64) -> usize
     i
 }
 
-// The lowest row of the number among those from a row on up to n.
+// The lowest row of the number from a row on, below n.
 fn find_from(cells: &[u64], from: usize, n: usize, number: u64) -> Found
     requires { ⌜ n ≤ rows (now cells) ⌝ }
     ensures { λ r. ⌜ r ≡ firstFrom (numberIs (now (cells .entry)) number) At Nothing from (n - from) ⌝ }

@@ -131,17 +131,14 @@ module _ (cells : List ℕ) (number : ℕ) where
       ∷ eqb (getD cells (row * stride + 3 * stride) 0) number
       ∷ []
 
+  place : (row k : ℕ) → (row + k) * stride ≡ row * stride + k * stride
+  place row k = omega arith
+
   pub four-miss : (row : ℕ) → anyOf (fourTests row) ≡ false → (k : ℕ) → k < 4 → numberIs cells number (row + k) ≡ false
-  four-miss row e zero h = let s : (row + 0) * stride ≡ row * stride = omega arith in rw s (anyOf-at (fourTests row) 0 e)
-  four-miss row e (suc zero) h =
-      let s : (row + 1) * stride ≡ row * stride + stride = omega arith in
-      rw s (anyOf-at (fourTests row) 1 e)
-  four-miss row e (suc (suc zero)) h =
-      let s : (row + 2) * stride ≡ row * stride + 2 * stride = omega arith in
-      rw s (anyOf-at (fourTests row) 2 e)
-  four-miss row e (suc (suc (suc zero))) h =
-      let s : (row + 3) * stride ≡ row * stride + 3 * stride = omega arith in
-      rw s (anyOf-at (fourTests row) 3 e)
+  four-miss row e zero h = rw (add-zero row) (anyOf-at (fourTests row) 0 e)
+  four-miss row e (suc zero) h = rw (place row 1) (anyOf-at (fourTests row) 1 e)
+  four-miss row e (suc (suc zero)) h = rw (place row 2) (anyOf-at (fourTests row) 2 e)
+  four-miss row e (suc (suc (suc zero))) h = rw (place row 3) (anyOf-at (fourTests row) 3 e)
   four-miss row e (suc (suc (suc (suc k)))) h = absurd (omega arith)
 
   -- rows in a line without the number: the walk goes on behind them

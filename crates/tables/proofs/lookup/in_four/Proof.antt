@@ -47,7 +47,7 @@ shared-slice-read-result-4 : tie.Need-shared-slice-read-result-4
 shared-slice-read-result-4 c = search needs
 
 returns : tie.Need-returns
-returns c = λ e. four-miss (c .before .before .before .before .args .cells .now) (c .before .before .before .before .args .number) (c .before .before .before .before .args .row) e
+returns c = let a = c .before .before .before .before .args in four-miss (a .cells .now) (a .number) (a .row)
 
 pub in-four-spec : {M : Type 1} → statement M
 in-four-spec =
