@@ -1,6 +1,11 @@
 // Lookup by number: specs/Lookup.
+ghost use mathlib.Core.Bool.{false};
 ghost use mathlib.Core.Path.{_≡_};
-ghost use Rattle.tables.specs.Lookup.{existing, lookup};
+ghost use Prim.Native.Nat.{ℕ, _+_, _-_, _≤_, _<_};
+ghost use Rattle.common.specs.Walk.{firstFrom};
+ghost use Rattle.tables.specs.declared.Found.the-variants.{At, Nothing};
+ghost use Rattle.tables.specs.Lookup.{numberIs, existing, lookup};
+ghost use Rattle.tables.specs.Rows.{rows};
 use crate::Found;
 use crate::rows::STRIDE;
 
@@ -12,12 +17,39 @@ fn existing_of(cells: &[u64], used: usize) -> usize
     if used < rows { used } else { rows }
 }
 
-// The lowest used row of a number, in either table.
-pub fn find(cells: &[u64], used: usize, number: u64) -> Found
-    ensures { λ r. ⌜ r ≡ lookup (now (cells .entry)) used number ⌝ }
+// Whether one of the four rows from a row on has the number.
+fn in_four(cells: &[u64], row: usize, number: u64) -> bool
+    requires { ⌜ row + 4 ≤ rows (now cells) ⌝ }
+    ensures { λ r. ⌜ (r ≡ false → (k : ℕ) → k < 4 → numberIs (now (cells .entry)) number (row + k) ≡ false) ⌝ }
 {
-    let n = existing_of(cells, used);
+    let b = row * STRIDE;
+    (cells[b] == number)
+        | (cells[b + STRIDE] == number)
+        | (cells[b + 2 * STRIDE] == number)
+        | (cells[b + 3 * STRIDE] == number)
+}
+
+// A row before which none has the number: eight rows are passed over a turn, with one branch.
+fn skip(cells: &[u64], n: usize, number: u64) -> usize
+    requires { ⌜ n ≤ rows (now cells) ⌝ }
+    ensures { λ r. ⌜ firstFrom (numberIs (now (cells .entry)) number) At Nothing r (n - r) ≡ firstFrom (numberIs (now (cells .entry)) number) At Nothing 0 n ⌝ }
+{
     let mut i: usize = 0;
+    while 8 <= n - i {
+        if in_four(cells, i, number) | in_four(cells, i + 4, number) {
+            return i;
+        }
+        i += 8;
+    }
+    i
+}
+
+// The lowest row of the number from a row on, below n.
+fn find_from(cells: &[u64], from: usize, n: usize, number: u64) -> Found
+    requires { ⌜ n ≤ rows (now cells) ⌝ }
+    ensures { λ r. ⌜ r ≡ firstFrom (numberIs (now (cells .entry)) number) At Nothing from (n - from) ⌝ }
+{
+    let mut i = from;
     while i < n {
         if cells[i * STRIDE] == number {
             return Found::At(i);
@@ -25,4 +57,13 @@ pub fn find(cells: &[u64], used: usize, number: u64) -> Found
         i += 1;
     }
     Found::Nothing
+}
+
+// The lowest used row of a number, in either table.
+pub fn find(cells: &[u64], used: usize, number: u64) -> Found
+    ensures { λ r. ⌜ r ≡ lookup (now (cells .entry)) used number ⌝ }
+{
+    let n = existing_of(cells, used);
+    let from = skip(cells, n, number);
+    find_from(cells, from, n, number)
 }

@@ -1,20 +1,22 @@
--- Laws of specs/Lookup: a row that is found is the lowest used one of its number, and what a written row does to a lookup.
+-- Laws of specs/Lookup: a row that is found is the lowest used one of its number, rows passed over, and what a written row
+-- does to a lookup.
 -- To cite: `Lowest` with `lookup-at` and `lookup-made`, `lookup-used`, `lookup-lent`, `lookup-nothing`, `lookup-none`, `lookup-put-kept`,
 -- `lookup-put-next`, `mandateAt-number`, `collectionAt-number`. Assumes nothing.
 use mathlib.Core.Path.{_≡_, refl, sym, _∙_, ap}
-use mathlib.Core.Bool.{Bool, cond}
-use mathlib.Core.List.{List}
+use mathlib.Core.Bool.{Bool, false, cond, _||_}
+use mathlib.Core.List.{List, [], _∷_}
 use mathlib.Core.Logic.{_≢_, ⊎-elim}
-use Prim.Native.Nat.{ℕ, _+_, _-_, _*_, _≤_, _<_}
+use Prim.Native.Nat.{ℕ, zero, suc, _+_, _-_, _*_, _≤_, _<_}
 use native.Mathlib.Nat.{add-zero}
 use native.Mathlib.Numerals.{add-one}
 use native.Mathlib.Omega.{arith}
 use borrow.Author.Tests.{ltb-true, ltb-false, eqb-true, eqb-false}
 use lib.Dec.{eqb, ltb}
 use lib.ListN.{length, getD}
+use Rattle.common.specs.Tests.{anyOf}
 use Rattle.common.specs.Walk.{firstFrom}
-use Rattle.common.proofs.Tests.{true-or-false}
-use Rattle.common.proofs.Walk.{all-left, firstFrom-cases, firstFrom-more, firstFrom-same, firstFrom-through}
+use Rattle.common.proofs.Tests.{true-or-false, anyOf-at}
+use Rattle.common.proofs.Walk.{firstFrom-miss, firstFrom-cases, firstFrom-more, firstFrom-same, firstFrom-through}
 use Rattle.tables.specs.declared.Found.{Found}
 use Rattle.tables.specs.declared.Found.the-variants.{At, Nothing}
 use Rattle.tables.specs.Limits.{stride}
@@ -68,12 +70,10 @@ module _ (cells : List ℕ) (used number : ℕ) where
       }))
       (λ below. none (λ j l. eqb-false (numberAt cells j) number (below j l)))
 
-  -- the lookup as the loop begins it
-  pub lookup-walk :
-      (n : ℕ) → n ≡ existing cells used
-      → firstFrom (numberIs cells number) At Nothing 0 (n - 0) ≡ lookup cells used number
+  -- the lookup is the walk over the used rows that there are
+  pub lookup-walk : (n : ℕ) → n ≡ existing cells used → firstFrom (numberIs cells number) At Nothing 0 n ≡ lookup cells used number
   unfolding lookup
-  lookup-walk n e = rw (all-left n, e)
+  lookup-walk n e = rw e
 
   pub lookup-at : (row : ℕ) → lookup cells used number ≡ At row → Lowest cells used number row
   lookup-at row =
@@ -118,6 +118,50 @@ module _ (cells : List ℕ) (used number : ℕ) where
       (λ (f : Found). f ≡ Nothing)
       (λ k low. absurd (none k (low .existing-row) (low .number-row)))
       (λ n. refl)
+
+-- ---- rows passed over
+
+module _ (cells : List ℕ) (number : ℕ) where
+  -- the tests of the four rows from a row on, by their cells
+  abbrev pub fourTests : ℕ → List Bool
+  fourTests row =
+      eqb (getD cells (row * stride) 0) number
+      ∷ eqb (getD cells (row * stride + stride) 0) number
+      ∷ eqb (getD cells (row * stride + 2 * stride) 0) number
+      ∷ eqb (getD cells (row * stride + 3 * stride) 0) number
+      ∷ []
+
+  place : (row k : ℕ) → (row + k) * stride ≡ row * stride + k * stride
+  place row k = omega arith
+
+  pub four-miss : (row : ℕ) → anyOf (fourTests row) ≡ false → (k : ℕ) → k < 4 → numberIs cells number (row + k) ≡ false
+  four-miss row e zero h = rw (add-zero row) (anyOf-at (fourTests row) 0 e)
+  four-miss row e (suc zero) h = rw (place row 1) (anyOf-at (fourTests row) 1 e)
+  four-miss row e (suc (suc zero)) h = rw (place row 2) (anyOf-at (fourTests row) 2 e)
+  four-miss row e (suc (suc (suc zero))) h = rw (place row 3) (anyOf-at (fourTests row) 3 e)
+  four-miss row e (suc (suc (suc (suc k)))) h = absurd (omega arith)
+
+  -- rows in a line without the number: the walk goes on behind them
+  pub walk-past :
+      (i n count : ℕ) → i + count ≤ n → ((k : ℕ) → k < count → numberIs cells number (i + k) ≡ false)
+      → firstFrom (numberIs cells number) At Nothing i (n - i) ≡ firstFrom (numberIs cells number) At Nothing (i + count) (n - (i + count))
+  walk-past i n zero h f = rw (add-zero i)
+  walk-past i n (suc count) h f =
+      let e : i + 1 + count ≡ i + suc count = omega arith in
+      let next : (k : ℕ) → i + 1 + k ≡ i + suc k = λ k. omega arith in
+      firstFrom-miss (numberIs cells number) At Nothing i n (omega arith) (rw (add-zero i) at (f 0 (omega arith)))
+      ∙ rw e at (walk-past (i + 1) n count (omega arith) (λ k l. rw (next k) (f (suc k) (omega arith))))
+
+  -- four rows and four more, each four by a test of their own
+  pub walk-past-eight :
+      (a b : Bool) (i n : ℕ) → i + 8 ≤ n → a || b ≡ false
+      → (a ≡ false → (k : ℕ) → k < 4 → numberIs cells number (i + k) ≡ false)
+      → (b ≡ false → (k : ℕ) → k < 4 → numberIs cells number (i + 4 + k) ≡ false)
+      → firstFrom (numberIs cells number) At Nothing i (n - i) ≡ firstFrom (numberIs cells number) At Nothing (i + 8) (n - (i + 8))
+  walk-past-eight a b i n h none f g =
+      let e : i + 4 + 4 ≡ i + 8 = omega arith in
+      walk-past i n 4 (omega arith) (f (anyOf-at (a ∷ b ∷ []) 0 none))
+      ∙ rw e at (walk-past (i + 4) n 4 (omega arith) (g (anyOf-at (a ∷ b ∷ []) 1 none)))
 
 -- ---- a row's number in its record
 
