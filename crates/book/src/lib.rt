@@ -17,8 +17,8 @@ mod verdicts;
 use model::Answer;
 use tables::Header;
 
-// The answer to an event, and the header after it.
+// The header after an event, and the answer to it. The header stands first so that it lies where it is copied whole.
 pub struct Outcome {
-    pub answer: Answer,
     pub header: Header,
+    pub answer: Answer,
 }

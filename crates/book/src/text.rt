@@ -51,14 +51,14 @@ struct Lines {
     at: usize,
 }
 
-// What a call leaves: the answer to it, the header, the lines answered so far, the bytes of the line that has begun, and
-// the bytes written.
+// What a call leaves: the header, the lines answered so far, the bytes of the line that has begun, the bytes written, and
+// the answer to the call.
 pub struct Piece {
-    pub answer: Answer,
     pub header: Header,
     pub lines: u64,
     pub begun: usize,
     pub told: usize,
+    pub answer: Answer,
 }
 
 // The number of an answer: 0 where the event is accepted.

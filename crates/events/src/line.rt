@@ -3,8 +3,7 @@ ghost use mathlib.Core.Path.{_≡_};
 ghost use mathlib.Core.List.{_++_};
 ghost use Prim.Native.Nat.{_+_, _≤_};
 ghost use lib.ListN.{length, take, drop};
-ghost use Rattle.events.specs.Line.{lineLength, widths, isDigit, readField, readNumber, readDigits, readFields, taken, answerOf, readLine, checkedLine, cellsBy, cellsAnswer, cellsAfter, lastDigit, fieldBytes, pasted, lineOf, writeAnswer, bytesAfter};
-ghost use Rattle.events.specs.Limits.{checked};
+ghost use Rattle.events.specs.Line.{lineLength, widths, isDigit, readField, readNumber, readDigits, readFields, taken, readLine, checkedLine, cellsBy, cellsAnswer, cellsAfter, lastDigit, fieldBytes, pasted, lineOf, writeAnswer, bytesAfter};
 use crate::Event;
 use crate::limits::Checked;
 use crate::limits::check;
@@ -111,7 +110,8 @@ fn field(line: &[u8], at: usize, width: usize) -> FieldAnswer
     number(&line[at..end])
 }
 
-// Reads the fields that stand in a line into nine cells, or changes nothing and gives refusal 1, 3, 4 or 5.
+// Reads the fields that stand in a line into nine cells, or changes nothing and gives refusal 1, 3, 4 or 5. The cells are stored
+// from the values that were read: of the event no copy is taken.
 fn fields(line: &[u8], cells: &mut [u64]) -> Checked
     requires { ⌜ (length (now line) ≡ lineLength) × (length (now cells) ≡ length widths) ⌝ }
     ensures answer { λ r. ⌜ r ≡ checkedLine (taken (readFields widths 0 (now (line .entry)))) ⌝ }
@@ -144,40 +144,28 @@ fn fields(line: &[u8], cells: &mut [u64]) -> Checked
     let FieldAnswer::Value(code) = field(line, 72, 2) else {
         return Checked::Refused(Refusal::BadLine);
     };
-    judged(
-        Event {
-            kind,
-            date,
-            mandate,
-            a,
-            b,
-            c,
-            amount,
-            second,
-            code,
-        },
-        cells,
-    )
-}
-
-// Writes the fields of an event that was read into nine cells, or changes nothing and gives refusal 3, 4 or 5.
-fn judged(e: Event, cells: &mut [u64]) -> Checked
-    requires { ⌜ length (now cells) ≡ length widths ⌝ }
-    ensures answer { λ r. ⌜ r ≡ checked e ⌝ }
-    ensures cells { λ _. ⌜ now (cells .exit) ≡ cellsBy (answerOf e (checked e)) (now (cells .entry)) ⌝ }
-{
-    match check(e) {
+    match check(Event {
+        kind,
+        date,
+        mandate,
+        a,
+        b,
+        c,
+        amount,
+        second,
+        code,
+    }) {
         Checked::Refused(r) => Checked::Refused(r),
         Checked::Within => {
-            cells[0] = e.kind;
-            cells[1] = e.date;
-            cells[2] = e.mandate;
-            cells[3] = e.a;
-            cells[4] = e.b;
-            cells[5] = e.c;
-            cells[6] = e.amount;
-            cells[7] = e.second;
-            cells[8] = e.code;
+            cells[0] = kind;
+            cells[1] = date;
+            cells[2] = mandate;
+            cells[3] = a;
+            cells[4] = b;
+            cells[5] = c;
+            cells[6] = amount;
+            cells[7] = second;
+            cells[8] = code;
             Checked::Within
         }
     }

@@ -20,15 +20,15 @@ use Rattle.events.specs.declared.Event.{Event}
 use Rattle.events.specs.declared.limits.Row.{Row}
 use Rattle.refusals.specs.declared.Refusal.{Refusal}
 use Rattle.refusals.specs.declared.Refusal.the-variants.{BadLine, UnfitMemory}
-use Rattle.events.specs.declared.limits.Checked.{Checked}
-use Rattle.events.specs.declared.limits.Checked.the-variants.{Within, Refused}
+use Rattle.events.specs.declared.limits.Checked.the-variants.{Refused}
+use Rattle.events.specs.declared.line.LineAnswer.{LineAnswer}
 use Rattle.events.specs.declared.line.LineAnswer.the-variants as lines
 use Rattle.events.specs.declared.line.WriteAnswer.the-variants as writes
 use Rattle.events.specs.declared.line.FieldAnswer.{FieldAnswer}
 use Rattle.events.specs.declared.line.FieldAnswer.the-variants.{Value, NoValue}
 use Rattle.events.proofs.Laws.Limits.{Limited, everyRow, rowOf-every, rowOf-codes, second-le}
 use Rattle.events.specs.Limits.{table, lastKind, checked}
-use Rattle.events.specs.Line.{widths, columns, lineLength, lineEnd, lineOf, answerOf, taken, readLine, checkedLine, cellsBy, cellsAnswer, cellsAfter, writtenOf, writeAnswer, bytesAfter, fieldsOf, eventOf, pasted, blank, zeroDigit, lastDigit, padded, fieldBytes, fieldsBytes, isDigit, readDigits, readNumber, readField, Fields, Values, Unreadable, joined, readFields}
+use Rattle.events.specs.Line.{widths, columns, lineLength, lineEnd, lineOf, taken, readLine, checkedLine, cellsBy, cellsAnswer, cellsAfter, writtenOf, writeAnswer, bytesAfter, fieldsOf, eventOf, pasted, blank, zeroDigit, lastDigit, padded, fieldBytes, fieldsBytes, isDigit, readDigits, readNumber, readField, Fields, Values, Unreadable, joined, readFields}
 
 -- ---- powers of ten
 
@@ -465,7 +465,7 @@ abbrev pub stored : List ℕ → ℕ → List ℕ → List ℕ
 stored l i [] = l
 stored l i (v ∷ vs) = stored (set l i v) (i + 1) vs
 
-length-stored : (l : List ℕ) (i : ℕ) (vs : List ℕ) → length (stored l i vs) ≡ length l
+pub length-stored : (l : List ℕ) (i : ℕ) (vs : List ℕ) → length (stored l i vs) ≡ length l
 length-stored l i [] = refl
 length-stored l i (v ∷ vs) = length-stored (set l i v) (i + 1) vs ∙ length-set l i v
 
@@ -567,27 +567,11 @@ pub after-none : (vs ws l : List ℕ) (at w : ℕ)
 after-none vs ws l at w e =
     ap (λ (a : FieldAnswer). after vs (joined a (readFields ws (at + w) l))) e ∙ after-unreadable vs
 
--- a field that cannot be read leaves the cells as they were
-pub cells-unreadable : (l cells : List ℕ)
-    → readFields widths 0 l ≡ Unreadable
-    → (Refused BadLine ≡ checkedLine (taken (readFields widths 0 l))) × (cells ≡ cellsBy (taken (readFields widths 0 l)) cells)
-cells-unreadable l cells p =
-    (ap (λ (f : Fields). checkedLine (taken f)) (sym p), ap (λ (f : Fields). cellsBy (taken f) cells) (sym p))
-
-checkedLine-answerOf : (e : Event) (c : Checked) → c ≡ checkedLine (answerOf e c)
-checkedLine-answerOf e Within = refl
-checkedLine-answerOf e (Refused r) = refl
-
--- fields that were read go by the limits of their event
-pub cells-values : (l cells next vs : List ℕ) (r : Checked)
-    → readFields widths 0 l ≡ Values vs
-    → r ≡ checked (eventOf vs)
-    → next ≡ cellsBy (answerOf (eventOf vs) (checked (eventOf vs))) cells
-    → (r ≡ checkedLine (taken (readFields widths 0 l))) × (next ≡ cellsBy (taken (readFields widths 0 l)) cells)
-cells-values l cells next vs r p q h = (
-  q ∙ checkedLine-answerOf (eventOf vs) (checked (eventOf vs)) ∙ ap (λ (f : Fields). checkedLine (taken f)) (sym p),
-  h ∙ ap (λ (f : Fields). cellsBy (taken f) cells) (sym p),
-)
+-- what is answered and what the cells hold, where the answer of a line is known
+pub cells-answer : (cells : List ℕ) (a b : LineAnswer)
+    → a ≡ b
+    → (checkedLine b ≡ checkedLine a) × (cellsBy b cells ≡ cellsBy a cells)
+cells-answer cells a b p = (ap checkedLine (sym p), ap (λ (x : LineAnswer). cellsBy x cells) (sym p))
 
 -- ---- the buffer as a field is written to it, from its right edge on
 

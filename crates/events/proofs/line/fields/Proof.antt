@@ -1,13 +1,16 @@
 -- `fields` reads field by field. At each place: the line, the values that were read of it, and that they and what is
--- still to be read are all that is read of it. Assumes nothing.
-use Rattle.events.proofs.Laws.Line.{after, after-value, after-none, cells-unreadable, cells-values}
-use Rattle.events.specs.Line.{widths, readFields}
-use lib.ListN.{drop}
-use lib.Dec.{lit≤}
+-- still to be read are all that is read of it. Then it goes by the answer of `check`, and stores the values cell after cell.
+-- Assumes nothing.
+use Rattle.events.proofs.Laws.Line.{after, after-value, after-none, stored, length-stored, cell-within, cells-stored, cells-answer}
+use Rattle.events.specs.Line.{widths, eventOf, readFields, answerOf, taken}
+use Rattle.events.specs.declared.line.LineAnswer.the-variants as lines
+use Rattle.refusals.specs.declared.Refusal.the-variants.{BadLine}
+use lib.ListN.{length, take, drop, length-set}
+use lib.Dec.{lit≤, lit<}
 use native.Mathlib.Omega.{arith}
-use Prim.Native.Nat.{ℕ}
+use Prim.Native.Nat.{ℕ, _<_}
 use mathlib.Core.List.{List, [], _∷_, _++_}
-use mathlib.Core.Path.{_≡_, sym, _∙_}
+use mathlib.Core.Path.{_≡_, sym, ap, _∙_}
 use borrow.Author.Needs.{needs}
 use Rattle.events.proofs.line.fields.Statement.{statement}
 use Rattle.events.proofs.line.fields.Tie as tie
@@ -175,10 +178,10 @@ enum-told c = search needs
 
 returns : tie.Need-returns
 returns c =
-    let s = c .before .before .before .before .before in
-    cells-unreadable (s .args .line .now) (s .args .cells .now)
+    cells-answer (c .before .before .before .before .before .args .cells .now) _ (lines.Refused BadLine)
+    (ap taken
     (after-none [] (drop 1 widths) (c .before .before .before .before .before .args .line .now) 0 2
-    (sym (c .before .before .field .ensures) ∙ c .enum-told .given .1))
+    (sym (c .before .before .field .ensures) ∙ c .enum-told .given .1)))
 
 field-requires-2 : tie.Need-field-requires-2
 field-requires-2 c κs = search needs
@@ -191,11 +194,11 @@ enum-told-2 c = search needs
 
 returns-2 : tie.Need-returns-2
 returns-2 c =
-    let s = start1 (c .before .before .before) in
-    cells-unreadable (s .args .line .now) (s .args .cells .now)
+    cells-answer (start1 (c .before .before .before) .args .cells .now) _ (lines.Refused BadLine)
+    (ap taken
     (after1 (c .before .before .before)
     ∙ after-none (values1 (c .before .before .before)) (drop 2 widths) (line1 (c .before .before .before)) 2 9
-    (sym (c .before .before .field2 .ensures) ∙ c .enum-told2 .given .1))
+    (sym (c .before .before .field2 .ensures) ∙ c .enum-told2 .given .1)))
 
 field-requires-3 : tie.Need-field-requires-3
 field-requires-3 c κs = search needs
@@ -208,11 +211,11 @@ enum-told-3 c = search needs
 
 returns-3 : tie.Need-returns-3
 returns-3 c =
-    let s = start2 (c .before .before .before) in
-    cells-unreadable (s .args .line .now) (s .args .cells .now)
+    cells-answer (start2 (c .before .before .before) .args .cells .now) _ (lines.Refused BadLine)
+    (ap taken
     (after2 (c .before .before .before)
     ∙ after-none (values2 (c .before .before .before)) (drop 3 widths) (line2 (c .before .before .before)) 11 10
-    (sym (c .before .before .field3 .ensures) ∙ c .enum-told3 .given .1))
+    (sym (c .before .before .field3 .ensures) ∙ c .enum-told3 .given .1)))
 
 field-requires-4 : tie.Need-field-requires-4
 field-requires-4 c κs = search needs
@@ -225,11 +228,11 @@ enum-told-4 c = search needs
 
 returns-4 : tie.Need-returns-4
 returns-4 c =
-    let s = start3 (c .before .before .before) in
-    cells-unreadable (s .args .line .now) (s .args .cells .now)
+    cells-answer (start3 (c .before .before .before) .args .cells .now) _ (lines.Refused BadLine)
+    (ap taken
     (after3 (c .before .before .before)
     ∙ after-none (values3 (c .before .before .before)) (drop 4 widths) (line3 (c .before .before .before)) 21 10
-    (sym (c .before .before .field4 .ensures) ∙ c .enum-told4 .given .1))
+    (sym (c .before .before .field4 .ensures) ∙ c .enum-told4 .given .1)))
 
 field-requires-5 : tie.Need-field-requires-5
 field-requires-5 c κs = search needs
@@ -242,11 +245,11 @@ enum-told-5 c = search needs
 
 returns-5 : tie.Need-returns-5
 returns-5 c =
-    let s = start4 (c .before .before .before) in
-    cells-unreadable (s .args .line .now) (s .args .cells .now)
+    cells-answer (start4 (c .before .before .before) .args .cells .now) _ (lines.Refused BadLine)
+    (ap taken
     (after4 (c .before .before .before)
     ∙ after-none (values4 (c .before .before .before)) (drop 5 widths) (line4 (c .before .before .before)) 31 10
-    (sym (c .before .before .field5 .ensures) ∙ c .enum-told5 .given .1))
+    (sym (c .before .before .field5 .ensures) ∙ c .enum-told5 .given .1)))
 
 field-requires-6 : tie.Need-field-requires-6
 field-requires-6 c κs = search needs
@@ -259,11 +262,11 @@ enum-told-6 c = search needs
 
 returns-6 : tie.Need-returns-6
 returns-6 c =
-    let s = start5 (c .before .before .before) in
-    cells-unreadable (s .args .line .now) (s .args .cells .now)
+    cells-answer (start5 (c .before .before .before) .args .cells .now) _ (lines.Refused BadLine)
+    (ap taken
     (after5 (c .before .before .before)
     ∙ after-none (values5 (c .before .before .before)) (drop 6 widths) (line5 (c .before .before .before)) 41 10
-    (sym (c .before .before .field6 .ensures) ∙ c .enum-told6 .given .1))
+    (sym (c .before .before .field6 .ensures) ∙ c .enum-told6 .given .1)))
 
 field-requires-7 : tie.Need-field-requires-7
 field-requires-7 c κs = (omega (arith, start6 c .pre .0), lit≤ tt)
@@ -276,11 +279,11 @@ enum-told-7 c = search needs
 
 returns-7 : tie.Need-returns-7
 returns-7 c =
-    let s = start6 (c .before .before .before) in
-    cells-unreadable (s .args .line .now) (s .args .cells .now)
+    cells-answer (start6 (c .before .before .before) .args .cells .now) _ (lines.Refused BadLine)
+    (ap taken
     (after6 (c .before .before .before)
     ∙ after-none (values6 (c .before .before .before)) (drop 7 widths) (line6 (c .before .before .before)) 51 12
-    (sym (c .before .before .field7 .ensures) ∙ c .enum-told7 .given .1))
+    (sym (c .before .before .field7 .ensures) ∙ c .enum-told7 .given .1)))
 
 field-requires-8 : tie.Need-field-requires-8
 field-requires-8 c κs = (omega (arith, start7 c .pre .0), lit≤ tt)
@@ -293,11 +296,11 @@ enum-told-8 c = search needs
 
 returns-8 : tie.Need-returns-8
 returns-8 c =
-    let s = start7 (c .before .before .before) in
-    cells-unreadable (s .args .line .now) (s .args .cells .now)
+    cells-answer (start7 (c .before .before .before) .args .cells .now) _ (lines.Refused BadLine)
+    (ap taken
     (after7 (c .before .before .before)
     ∙ after-none (values7 (c .before .before .before)) (drop 8 widths) (line7 (c .before .before .before)) 63 9
-    (sym (c .before .before .field8 .ensures) ∙ c .enum-told8 .given .1))
+    (sym (c .before .before .field8 .ensures) ∙ c .enum-told8 .given .1)))
 
 field-requires-9 : tie.Need-field-requires-9
 field-requires-9 c κs = (omega (arith, start8 c .pre .0), lit≤ tt)
@@ -310,26 +313,85 @@ enum-told-9 c = search needs
 
 returns-9 : tie.Need-returns-9
 returns-9 c =
-    let s = start8 (c .before .before .before) in
-    cells-unreadable (s .args .line .now) (s .args .cells .now)
+    cells-answer (start8 (c .before .before .before) .args .cells .now) _ (lines.Refused BadLine)
+    (ap taken
     (after8 (c .before .before .before)
     ∙ after-none (values8 (c .before .before .before)) (drop 9 widths) (line8 (c .before .before .before)) 72 2
-    (sym (c .before .before .field9 .ensures) ∙ c .enum-told9 .given .1))
+    (sym (c .before .before .field9 .ensures) ∙ c .enum-told9 .given .1)))
 
-judged-requires : tie.Need-judged-requires
-judged-requires c κs = start9 (c .before) .pre .1
+-- the values that were read, and the cells as they were
+abbrev values : tie.After-check → List ℕ
+values c = values9 (c .before)
 
-same-length : tie.Need-same-length
-same-length c = search needs
+abbrev cells : tie.After-check → List ℕ
+cells c = start9 (c .before) .args .cells .now
+
+nine : (c : tie.After-check) → length (cells c) ≡ length widths
+nine c = start9 (c .before) .pre .1
+
+-- the answer of the line is that of its event
+answer : (c : tie.After-check)
+    → taken (readFields widths 0 (line9 (c .before))) ≡ answerOf (eventOf (values c)) (c .check .result)
+answer c = ap taken (after9 (c .before)) ∙ ap (answerOf (eventOf (values c))) (sym (c .check .ensures))
+
+-- there is a cell for the next value
+cell : (c : tie.After-check) (n : ℕ) → n < length widths → n < length (stored (cells c) 0 (take n (values c)))
+cell c n h = cell-within (cells c) (take n (values c)) n (nine c) h
+
+check-requires : tie.Need-check-requires
+check-requires c κs = search needs
+
+enum-known-r : tie.Need-enum-known-r
+enum-known-r c = search needs
+
+enum-told-10 : tie.Need-enum-told-10
+enum-told-10 c = search needs
+
+slice-write-cells : tie.Need-slice-write-cells
+slice-write-cells c = cell (c .before .before) 0 (lit< tt)
+
+slice-write-cells-2 : tie.Need-slice-write-cells-2
+slice-write-cells-2 c = cell (c .before .before) 1 (lit< tt)
+
+slice-write-cells-3 : tie.Need-slice-write-cells-3
+slice-write-cells-3 c = cell (c .before .before) 2 (lit< tt)
+
+slice-write-cells-4 : tie.Need-slice-write-cells-4
+slice-write-cells-4 c = cell (c .before .before) 3 (lit< tt)
+
+slice-write-cells-5 : tie.Need-slice-write-cells-5
+slice-write-cells-5 c = cell (c .before .before) 4 (lit< tt)
+
+slice-write-cells-6 : tie.Need-slice-write-cells-6
+slice-write-cells-6 c = cell (c .before .before) 5 (lit< tt)
+
+slice-write-cells-7 : tie.Need-slice-write-cells-7
+slice-write-cells-7 c = cell (c .before .before) 6 (lit< tt)
+
+slice-write-cells-8 : tie.Need-slice-write-cells-8
+slice-write-cells-8 c = cell (c .before .before) 7 (lit< tt)
+
+slice-write-cells-9 : tie.Need-slice-write-cells-9
+slice-write-cells-9 c = cell (c .before .before) 8 (lit< tt)
 
 returns-10 : tie.Need-returns-10
 returns-10 c =
-    let k = c .before .before .before .before in
-    let s = start9 k in
-    cells-values (s .args .line .now) (s .args .cells .now) _ (values9 k) _
-    (after9 k)
-    (c .before .before .judged .ensures .0)
-    (c .before .before .judged .ensures .1)
+    let k = c .before .before .before in
+    cells-answer (cells k) _ (lines.Refused (c .before .r .given .0 .0))
+    (answer k ∙ ap (answerOf (eventOf (values k))) (c .before .r .given .1))
+
+same-length : tie.Need-same-length
+same-length c =
+    let k = c .before .before in
+    length-set (stored (cells k) 0 (take 8 (values k))) 8 _ ∙ length-stored (cells k) 0 (take 8 (values k))
+
+returns-11 : tie.Need-returns-11
+returns-11 c =
+    let k = c .before .before in
+    let p =
+    cells-answer (cells k) _ (lines.Taken (eventOf (values k)))
+    (answer k ∙ ap (answerOf (eventOf (values k))) (c .enum-told10 .given .1)) in
+    (p .0, cells-stored (eventOf (values k)) (cells k) (nine k) ∙ p .1)
 
 pub fields-spec : {M : Type 1} → statement M
 fields-spec =
@@ -371,6 +433,18 @@ fields-spec =
     enum-known-code
     enum-told-9
     returns-9
-    judged-requires
+    check-requires
+    enum-known-r
+    enum-told-10
+    slice-write-cells
+    slice-write-cells-2
+    slice-write-cells-3
+    slice-write-cells-4
+    slice-write-cells-5
+    slice-write-cells-6
+    slice-write-cells-7
+    slice-write-cells-8
+    slice-write-cells-9
+    returns-10
     same-length
-    returns-10)
+    returns-11)
