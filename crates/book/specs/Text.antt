@@ -40,7 +40,7 @@ pub record LineTaken (l : Ledger) (line : List ℕ) (r : Outcome) (l' : Ledger) 
   pub after-is : l' ≡ afterLine l (readLine line)
 
 -- the memory was tested, and the buffer has room for an answer
-pub record Ready (known : Bool) (l : Ledger) (told : ℕ) (out : List ℕ) : Type 0 where
+pub record AnswerRoom (known : Bool) (l : Ledger) (told : ℕ) (out : List ℕ) : Type 0 where
   pub tested : Known known l
   pub room : told + answerLength ≤ length out
 
@@ -52,7 +52,7 @@ pub record LineTold (l : Ledger) (p : Progress) (line out : List ℕ) (r : Progr
 
 -- ---- the lines of a text
 
-pub record Roomy (known : Bool) (l : Ledger) (text out : List ℕ) : Type 0 where
+pub record TextRoom (known : Bool) (l : Ledger) (text out : List ℕ) : Type 0 where
   pub tested : Known known l
   pub room : answerLength * length text ≤ length out
 

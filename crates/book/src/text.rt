@@ -11,7 +11,7 @@ ghost use Rattle.model.specs.Step.{answerNumber};
 ghost use Rattle.report.specs.Layout.{answerLength};
 ghost use Rattle.report.specs.Run.{runAt, keptLength, kept};
 ghost use Rattle.book.specs.Events.{Taken};
-ghost use Rattle.book.specs.Text.{Sound, Known, LineTaken, Ready, LineTold, Roomy, LinesTold, unfitPiece, PieceTaken, EndTaken};
+ghost use Rattle.book.specs.Text.{Sound, Known, LineTaken, AnswerRoom, LineTold, TextRoom, LinesTold, unfitPiece, PieceTaken, EndTaken};
 use crate::Outcome;
 use crate::cells::EVENT_CELLS;
 use crate::cells::event_at;
@@ -160,7 +160,7 @@ fn end_line(
     debtor_positions: &mut [i64],
     bank_positions: &mut [i64],
 ) -> Progress
-    requires { ⌜ Ready known (ledger (p .header) (now mandates) (now collections) (now creditors) (now «creditor_positions») (now «debtor_positions») (now «bank_positions»)) (p .told) (now out) ⌝ }
+    requires { ⌜ AnswerRoom known (ledger (p .header) (now mandates) (now collections) (now creditors) (now «creditor_positions») (now «debtor_positions») (now «bank_positions»)) (p .told) (now out) ⌝ }
     ensures { λ r. ⌜ LineTold (ledger (p .header) (now (mandates .entry)) (now (collections .entry)) (now (creditors .entry)) (now («creditor_positions» .entry)) (now («debtor_positions» .entry)) (now («bank_positions» .entry))) p (now (line .entry)) (now (out .entry)) r
         (ledger (r .header) (now (mandates .exit)) (now (collections .exit)) (now (creditors .exit)) (now («creditor_positions» .exit)) (now («debtor_positions» .exit)) (now («bank_positions» .exit))) (now (out .exit)) ⌝ }
 {
@@ -205,7 +205,7 @@ fn take_lines(
     debtor_positions: &mut [i64],
     bank_positions: &mut [i64],
 ) -> Lines
-    requires { ⌜ Roomy known (ledger header (now mandates) (now collections) (now creditors) (now «creditor_positions») (now «debtor_positions») (now «bank_positions»)) (now text) (now out) ⌝ }
+    requires { ⌜ TextRoom known (ledger header (now mandates) (now collections) (now creditors) (now «creditor_positions») (now «debtor_positions») (now «bank_positions»)) (now text) (now out) ⌝ }
     ensures { λ r. ⌜ LinesTold (runAt (ledger header (now (mandates .entry)) (now (collections .entry)) (now (creditors .entry)) (now («creditor_positions» .entry)) (now («debtor_positions» .entry)) (now («bank_positions» .entry))) lines []) (now (text .entry)) (now (out .entry)) r
         (ledger (r .header) (now (mandates .exit)) (now (collections .exit)) (now (creditors .exit)) (now («creditor_positions» .exit)) (now («debtor_positions» .exit)) (now («bank_positions» .exit))) (now (out .exit)) ⌝ }
 {
