@@ -1,8 +1,10 @@
 #!/usr/bin/env python3
 """streams.py LEDGER TWIN: compares both programs on inputs that no case file should hold (the limit of lines, lines
-of megabytes), feeds the ledger byte by byte, and sees that it ends when nobody reads on. A difference fails."""
+of megabytes, lines at every place across the end of a piece that is read), feeds the ledger byte by byte, and sees that
+it ends when nobody reads on. A difference fails."""
 import subprocess
 import sys
+import tempfile
 import time
 from pathlib import Path
 
@@ -10,6 +12,7 @@ TOP = Path(__file__).resolve().parent.parent
 EXAMPLE = (TOP / "crates/ledger/stdin").read_bytes()
 ANSWERS = (TOP / "crates/ledger/stdout").read_bytes()
 LINES = 999_999
+PIECE = 65_536
 
 STREAMS = {
     "lines past the limit": b"\n" * (LINES + 10),
@@ -25,6 +28,20 @@ STREAMS = {
 def output(program, data):
     done = subprocess.run([program], input=data, capture_output=True, timeout=60, check=True)
     return done.stdout
+
+
+def from_file(program, data):
+    """A file is read in whole pieces, a pipe in whatever has come."""
+    with tempfile.TemporaryFile() as file:
+        file.write(data)
+        file.seek(0)
+        return subprocess.run([program], stdin=file, capture_output=True, timeout=60, check=True).stdout
+
+
+def across_pieces(ledger, twin):
+    """A long bad line, so that the end of the first piece falls on every byte of the example's first two lines."""
+    inputs = (b"x" * (PIECE - 1 - before) + b"\n" + EXAMPLE for before in range(2 * 75 + 2))
+    return all(from_file(ledger, data) == from_file(twin, data) for data in inputs)
 
 
 def byte_by_byte(program):
@@ -53,12 +70,14 @@ def end_unheard(program):
 def main():
     ledger, twin = sys.argv[1:]
     wrong = [name for name, data in STREAMS.items() if output(ledger, data) != output(twin, data)]
+    if not across_pieces(ledger, twin):
+        wrong.append("lines across the end of a piece")
     if not byte_by_byte(ledger):
         wrong.append("byte by byte")
     end_unheard(ledger)
     if wrong:
         sys.exit("streams: differ: " + "; ".join(wrong))
-    print(f"streams: {len(STREAMS) + 2} agree")
+    print(f"streams: {len(STREAMS) + 3} agree")
 
 
 main()
