@@ -8,6 +8,7 @@ use lib.Dec.{eqb, ltb, leb}
 use lib.IntN.{ℤ, pos, negsuc}
 use lib.ListN.{take, length}
 use Rattle.refusals.specs.declared.Refusal.the-variants.{UnfitMemory}
+use Rattle.events.specs.declared.Event.{Event}
 use Rattle.events.specs.declared.line.LineAnswer.{LineAnswer}
 use Rattle.events.specs.declared.line.LineAnswer.the-variants as lines
 use Rattle.events.specs.Line.{lineEnd, lineLength, readLine, pasted}
@@ -18,6 +19,7 @@ use Rattle.tables.specs.Fitness.{fit}
 use Rattle.model.specs.declared.Answer.{Answer}
 use Rattle.model.specs.declared.Answer.the-variants.{Accepted, Refused}
 use Rattle.model.specs.Step.{answerNumber, answer, after, figureOf}
+use Rattle.model.specs.Journal.{Journal, figureIn}
 use Rattle.report.specs.declared.listing.Listing.{Listing}
 use Rattle.report.specs.Layout.{lastNumber, answerLine, positionLine, positionLength}
 
@@ -82,6 +84,21 @@ unfoldable pub toldText : Run → List ℕ → List ℕ
 toldText r [] = []
 toldText r (b ∷ bs) = toldByte r b ++ toldText (takeByte r b) bs
 
+-- the events of a text, those of its answered lines that the reader takes
+abbrev pub eventIn : LineAnswer → List Event
+eventIn (lines.Taken e) = e ∷ []
+eventIn (lines.Refused r) = []
+
+abbrev pub eventsEnded : Run → List ℕ → List Event
+eventsEnded r line = cond (ltb (r .lines) lastNumber) (eventIn (readLine line)) []
+
+abbrev pub eventsByte : Run → ℕ → List Event
+eventsByte r b = cond (eqb b lineEnd) (eventsEnded r (kept (r .begun ++ (b ∷ [])))) []
+
+unfoldable pub eventsText : Run → List ℕ → List Event
+eventsText r [] = []
+eventsText r (b ∷ bs) = eventsByte r b ++ eventsText (takeByte r b) bs
+
 -- the end of the input ends a line that has begun
 abbrev pub endText : Run → Run
 endText r = cond (eqb (length (r .begun)) 0) r (ended r (r .begun))
@@ -109,6 +126,18 @@ toldPositions l =
     ++ toldKind l 2 debtorCount
     ++ toldKind l 3 bankCount
     ++ positionLine 4 0 (l .compensation)
+
+-- the same of a journal's figures
+unfoldable pub toldJournalKind : Journal → ℕ → ℕ → List ℕ
+toldJournalKind j kind zero = []
+toldJournalKind j kind (suc n) = toldJournalKind j kind n ++ toldPosition kind (suc n) (figureIn j kind (suc n))
+
+unfoldable pub toldJournal : Journal → List ℕ
+toldJournal j =
+    toldJournalKind j 1 creditorCount
+    ++ toldJournalKind j 2 debtorCount
+    ++ toldJournalKind j 3 bankCount
+    ++ positionLine 4 0 (figureIn j 4 0)
 
 -- the bytes that a listing takes at most: a line for each party and bank, and one for the total
 abbrev pub listingRoom : ℕ

@@ -129,7 +129,7 @@ pub record Begun (r : Run) : Type 0 where
   pub endless : Endless (r .begun)
   pub short : length (r .begun) ≤ keptLength
 
-begun-none : (l : Ledger) (n : ℕ) → Begun (runAt l n [])
+pub begun-none : (l : Ledger) (n : ℕ) → Begun (runAt l n [])
 begun-none l n = record { endless = λ j h. absurd (omega arith); short = omega arith }
 
 -- one byte more
@@ -163,7 +163,7 @@ begun-byte r b h =
     ended-begun true = begun-none (afterLine (r .book) (readLine (kept (r .begun ++ (b ∷ []))))) (r .lines + 1)
     ended-begun false = begun-none (r .book) (r .lines)
 
-begun-text : (p : List ℕ) (r : Run) → Begun r → Begun (takeText r p)
+pub begun-text : (p : List ℕ) (r : Run) → Begun r → Begun (takeText r p)
 unfolding takeText
 begun-text [] r h = h
 begun-text (b ∷ p) r h = begun-text p (takeByte r b) (begun-byte r b h)
