@@ -114,10 +114,13 @@ toldPosition kind number (pos zero) = []
 toldPosition kind number (pos (suc n)) = positionLine kind number (pos (suc n))
 toldPosition kind number (negsuc n) = positionLine kind number (negsuc n)
 
--- those of a kind, from number 1 to n
-unfoldable pub toldKind : Ledger → ℕ → ℕ → List ℕ
-toldKind l kind zero = []
-toldKind l kind (suc n) = toldKind l kind n ++ toldPosition kind (suc n) (figureOf l kind (suc n))
+-- those of a kind, from number 1 to n, by the figure of each number
+unfoldable pub toldFigures : ℕ → (ℕ → ℤ) → ℕ → List ℕ
+toldFigures kind figure zero = []
+toldFigures kind figure (suc n) = toldFigures kind figure n ++ toldPosition kind (suc n) (figure (suc n))
+
+abbrev pub toldKind : Ledger → ℕ → ℕ → List ℕ
+toldKind l kind n = toldFigures kind (figureOf l kind) n
 
 -- creditors, debtors, banks, and total compensation, be it 0
 unfoldable pub toldPositions : Ledger → List ℕ
@@ -128,15 +131,11 @@ toldPositions l =
     ++ positionLine 4 0 (l .compensation)
 
 -- the same of a journal's figures
-unfoldable pub toldJournalKind : Journal → ℕ → ℕ → List ℕ
-toldJournalKind j kind zero = []
-toldJournalKind j kind (suc n) = toldJournalKind j kind n ++ toldPosition kind (suc n) (figureIn j kind (suc n))
-
 unfoldable pub toldJournal : Journal → List ℕ
 toldJournal j =
-    toldJournalKind j 1 creditorCount
-    ++ toldJournalKind j 2 debtorCount
-    ++ toldJournalKind j 3 bankCount
+    toldFigures 1 (figureIn j 1) creditorCount
+    ++ toldFigures 2 (figureIn j 2) debtorCount
+    ++ toldFigures 3 (figureIn j 3) bankCount
     ++ positionLine 4 0 (figureIn j 4 0)
 
 -- the bytes that a listing takes at most: a line for each party and bank, and one for the total
@@ -148,10 +147,8 @@ unfoldable pub listed : Ledger → List ℕ → Bool
 listed l out = fit l && leb listingRoom (length out)
 
 -- the lines of one table of positions, from number 1 to n; those of a kind are the lines of its table
-unfoldable pub toldTable : ℕ → List ℤ → ℕ → List ℕ
-toldTable kind positions zero = []
-toldTable kind positions (suc n) =
-    toldTable kind positions n ++ toldPosition kind (suc n) (position positions (suc n))
+abbrev pub toldTable : ℕ → List ℤ → ℕ → List ℕ
+toldTable kind positions n = toldFigures kind (position positions) n
 
 -- the listing, or refusal 2 and nothing written
 pub record Listed (l : Ledger) (out : List ℕ) (r : Listing) (out' : List ℕ) : Type 0 where

@@ -27,7 +27,7 @@ use Rattle.tables.specs.Fitness.{fit, positionFit}
 use Rattle.tables.proofs.Laws.Fitness.{Fit, fit-facts, position-facts, compensation-facts, creditorsFit-at, positionsFit-at}
 use Rattle.model.specs.Step.{figureOf}
 use Rattle.report.specs.Layout.{positionLine, positionLength, lastKind, lastNumber, positionFits}
-use Rattle.report.specs.Run.{toldPosition, toldKind, toldPositions, toldTable, listingRoom, listed}
+use Rattle.report.specs.Run.{toldPosition, toldFigures, toldKind, toldPositions, toldTable, listingRoom, listed}
 use Rattle.report.proofs.Laws.Layout.{length-positionLine, length-pasted, pasted-next, positionFits-is}
 
 -- ---- one position
@@ -51,12 +51,12 @@ module _ (kind number : ℕ) where
 module _ (kind : ℕ) (positions : List ℤ) where
   pub toldTable-more :
       (n : ℕ) → toldTable kind positions (n + 1) ≡ toldTable kind positions n ++ toldPosition kind (n + 1) (getD positions n (pos 0))
-  unfolding toldTable position
+  unfolding toldFigures position
   toldTable-more n = rw (add-one)
 
   -- a line for each number at most
   pub length-toldTable : (n : ℕ) → length (toldTable kind positions n) ≤ n * positionLength
-  unfolding toldTable
+  unfolding toldFigures
   length-toldTable zero = omega arith
   length-toldTable (suc n) =
       let told = toldPosition kind (suc n) (position positions (suc n)) in
@@ -73,13 +73,13 @@ module _ (l : Ledger) (kind : ℕ) where
   -- the next number
   pub toldKind-more :
       (n : ℕ) → toldKind l kind (n + 1) ≡ toldKind l kind n ++ toldPosition kind (n + 1) (figureOf l kind (n + 1))
-  unfolding toldKind
+  unfolding toldFigures
   toldKind-more n = rw (add-one)
 
   pub toldKind-table :
       (positions : List ℤ) → ((number : ℕ) → figureOf l kind number ≡ position positions number)
       → (n : ℕ) → toldKind l kind n ≡ toldTable kind positions n
-  unfolding toldKind toldTable
+  unfolding toldFigures
   toldKind-table positions f zero = refl
   toldKind-table positions f (suc n) =
       ap (λ (t : List ℕ). t ++ toldPosition kind (suc n) (figureOf l kind (suc n))) (toldKind-table positions f n)
@@ -87,7 +87,7 @@ module _ (l : Ledger) (kind : ℕ) where
 
   -- a line for each number at most
   pub length-toldKind : (n : ℕ) → length (toldKind l kind n) ≤ n * positionLength
-  unfolding toldKind
+  unfolding toldFigures
   length-toldKind zero = omega arith
   length-toldKind (suc n) =
       omega (
@@ -166,7 +166,7 @@ Ready at kind positions out =
     × Within positionLimit positions
 
 pub table-start : (at kind : ℕ) (positions : List ℤ) (out : List ℕ) → Written at out (toldTable kind positions 0) at out
-unfolding toldTable
+unfolding toldFigures
 table-start at kind positions out = written-none at out
 
 module _ (at kind : ℕ) (positions : List ℤ) (out : List ℕ) (ready : Ready at kind positions out) where

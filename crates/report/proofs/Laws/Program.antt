@@ -27,7 +27,7 @@ use Rattle.model.specs.Promises.{answered}
 use Rattle.model.proofs.Laws.Theorem.{demand3}
 use Rattle.report.specs.Layout.{lastNumber}
 use Rattle.report.specs.Cut.{Endless}
-use Rattle.report.specs.Run.{Run, runAt, kept, afterLine, ended, takeByte, takeText, eventIn, eventsEnded, eventsByte, eventsText, endText, toldPosition, toldKind, toldPositions, toldJournalKind, toldJournal}
+use Rattle.report.specs.Run.{Run, runAt, kept, afterLine, ended, takeByte, takeText, eventIn, eventsEnded, eventsByte, eventsText, endText, toldPosition, toldFigures, toldPositions, toldJournal}
 use Rattle.report.specs.Promises.{ProgramKept}
 use Rattle.report.proofs.Laws.Run.{Begun, begun-none, begun-text}
 
@@ -109,14 +109,14 @@ query-figures l kind number z e = by-tests (fit l) (inQuery kind number) e
     by-tests true false p = let x : _≡_ {A = ℕ} 0 1 = cc in absurd (omega arith)
     by-tests false q p = let x : _≡_ {A = ℕ} 0 1 = cc in absurd (omega arith)
 
-kind-same : (l : Ledger) (j : Journal) (kind n : ℕ)
-    → ((i : ℕ) → i < n → figureOf l kind (suc i) ≡ figureIn j kind (suc i))
-    → toldKind l kind n ≡ toldJournalKind j kind n
-unfolding toldKind toldJournalKind
-kind-same l j kind zero h = refl
-kind-same l j kind (suc n) h =
-    ap (λ (x : List ℕ). x ++ toldPosition kind (suc n) (figureOf l kind (suc n))) (kind-same l j kind n (λ i k. h i (omega arith)))
-    ∙ ap (λ (z : ℤ). toldJournalKind j kind n ++ toldPosition kind (suc n) z) (h n (omega arith))
+figures-same : (kind : ℕ) (f g : ℕ → ℤ) (n : ℕ)
+    → ((i : ℕ) → i < n → f (suc i) ≡ g (suc i))
+    → toldFigures kind f n ≡ toldFigures kind g n
+unfolding toldFigures
+figures-same kind f g zero h = refl
+figures-same kind f g (suc n) h =
+    ap (λ (x : List ℕ). x ++ toldPosition kind (suc n) (f (suc n))) (figures-same kind f g n (λ i k. h i (omega arith)))
+    ∙ ap (λ (z : ℤ). toldFigures kind g n ++ toldPosition kind (suc n) z) (h n (omega arith))
 
 module _ (l : Ledger) (j : Journal) (figures : (kind number : ℕ) → inQuery kind number ≡ true → query l kind number ≡ Figure (figureIn j kind number)) where
   same : (kind number : ℕ) → inQuery kind number ≡ true → figureOf l kind number ≡ figureIn j kind number
@@ -125,9 +125,9 @@ module _ (l : Ledger) (j : Journal) (figures : (kind number : ℕ) → inQuery k
   listing-same : toldPositions l ≡ toldJournal j
   unfolding toldPositions toldJournal
   listing-same =
-      let a = kind-same l j 1 creditorCount (λ i h. same 1 (suc i) (rw (le-leb 1 (suc i) (omega arith), le-leb (suc i) creditorCount (omega arith)))) in
-      let b = kind-same l j 2 debtorCount (λ i h. same 2 (suc i) (rw (le-leb 1 (suc i) (omega arith), le-leb (suc i) debtorCount (omega arith)))) in
-      let c = kind-same l j 3 bankCount (λ i h. same 3 (suc i) (rw (le-leb 1 (suc i) (omega arith), le-leb (suc i) bankCount (omega arith)))) in
+      let a = figures-same 1 (figureOf l 1) (figureIn j 1) creditorCount (λ i h. same 1 (suc i) (rw (le-leb 1 (suc i) (omega arith), le-leb (suc i) creditorCount (omega arith)))) in
+      let b = figures-same 2 (figureOf l 2) (figureIn j 2) debtorCount (λ i h. same 2 (suc i) (rw (le-leb 1 (suc i) (omega arith), le-leb (suc i) debtorCount (omega arith)))) in
+      let c = figures-same 3 (figureOf l 3) (figureIn j 3) bankCount (λ i h. same 3 (suc i) (rw (le-leb 1 (suc i) (omega arith), le-leb (suc i) bankCount (omega arith)))) in
       rw (a, b, c, same 4 0 refl)
 
 -- ---- the whole
