@@ -7,6 +7,7 @@ pub mod Answers  -- what an answer says of a date or a day
 pub mod Easter  -- the table is the computus, and where Easter lies
 pub mod Target  -- business days; the first one is unique and in the order of the days
 pub mod Holidays  -- of five days in a row one is a business day
+pub mod Open  -- a business day by its place in the year
 pub mod BusinessDays  -- the first, the n-th and the last business day
 pub mod BusinessDates  -- the same for dates; a due date of the range is kept in it
 pub mod Periods  -- calendar days, business days and months after a date

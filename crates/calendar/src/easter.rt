@@ -1,12 +1,15 @@
 // The table of Easter Sundays: specs/Easter.
 ghost use mathlib.Core.Path.{_≡_};
-ghost use Rattle.calendar.specs.Easter.{easterOf, easterDayOf};
+ghost use Prim.Native.Nat.{_+_, _<_};
+ghost use Rattle.calendar.specs.Gregorian.{monthDay, leapDay, firstYear};
+ghost use Rattle.calendar.specs.DayNumber.{yearStart, dayNumber};
+ghost use Rattle.calendar.specs.Easter.{easterSunday, easterOf, easterDayOf};
 use crate::DateAnswer;
 use crate::DayAnswer;
 use crate::gregorian;
 
 // Easter Sunday of each year from 2000 to 2199, as MMDD.
-const EASTER: [u64; 200] = [
+const EASTER: [u16; 200] = [
     423, // 2000 to 2009
     415,
     331,
@@ -209,11 +212,38 @@ const EASTER: [u64; 200] = [
     414,
 ];
 
+fn wide(x: u16) -> u64
+    ensures { λ r. ⌜ r ≡ x ⌝ }
+{
+    x as u64
+}
+
+// Easter Sunday of the year 2000 + k, as MMDD. Only this function reads the table.
+fn easter_in(k: u64) -> u64
+    requires { ⌜ k < 200 ⌝ }
+    ensures { λ r. ⌜ r ≡ monthDay (easterSunday (firstYear + k)) ⌝ }
+{
+    wide(EASTER[k as usize])
+}
+
+// The day, from 0, of the year 2000 + k, with l leap days, that is Easter Sunday.
+pub(crate) fn easter_place(k: u64, l: u64) -> u64
+    requires { ⌜ (k < 200) × (l ≡ leapDay (firstYear + k)) ⌝ }
+    ensures { λ r. ⌜ yearStart k + r ≡ dayNumber (easterSunday (firstYear + k)) ⌝ }
+{
+    let md = easter_in(k);
+    if md < 400 {
+        59 + l + md - 301
+    } else {
+        90 + l + md - 401
+    }
+}
+
 pub fn easter_sunday(y: u64) -> DateAnswer
     ensures { λ r. ⌜ r ≡ easterOf y ⌝ }
 {
     if (2000 <= y) & (y <= 2199) {
-        return DateAnswer::Date(y * 10000 + EASTER[(y - 2000) as usize]);
+        return DateAnswer::Date(y * 10000 + easter_in(y - 2000));
     }
     DateAnswer::NoDate
 }

@@ -1,8 +1,9 @@
 // Dates and day numbers: specs/Gregorian and specs/DayNumber.
 ghost use mathlib.Core.Path.{_≡_};
-ghost use mathlib.Core.Bool.{true};
-ghost use Prim.Native.Nat.{_+_, _≤_, _<_};
-ghost use Rattle.calendar.specs.Gregorian.{leap, leapDay, monthLength, isDate, inRange};
+ghost use mathlib.Core.Bool.{true, cond};
+ghost use Prim.Native.Nat.{_+_, _-_, _≤_, _<_};
+ghost use lib.Dec.{ltb};
+ghost use Rattle.calendar.specs.Gregorian.{leap, leapDay, monthLength, isDate, inRange, firstYear, lastYear};
 ghost use Rattle.calendar.specs.DayNumber.{daysBefore, yearStart, calendarDays, dayNumber, dayOf, yearAt, monthAt, dateIn, dateAt, dateOf};
 use crate::DateAnswer;
 use crate::DayAnswer;
@@ -11,6 +12,18 @@ use crate::DayAnswer;
 const COUNTS: [u64; 12] = [0, 31, 59, 90, 120, 151, 181, 212, 243, 273, 304, 334];
 
 const CALENDAR_DAYS: u64 = 73049;
+
+// The days before 2101.
+const DAYS_TO_2101: u64 = 36890;
+
+// The days of four years, of which one has a leap day.
+const FOUR_YEARS: u64 = 1461;
+
+// A day by its year, from 2000, and its day of the year, from 0.
+pub(crate) struct Place {
+    pub(crate) year: u64,
+    pub(crate) day: u64,
+}
 
 pub fn is_leap(y: u64) -> bool
     ensures { λ r. ⌜ r ≡ leap y ⌝ }
@@ -23,6 +36,14 @@ pub fn leap_day(y: u64) -> u64
     ensures { λ r. ⌜ r ≡ leapDay y ⌝ }
 {
     if is_leap(y) { 1 } else { 0 }
+}
+
+// The same for a year of the calendar: of those that 4 divides only 2100 is none.
+pub(crate) fn leap_day_in(y: u64) -> u64
+    requires { ⌜ (firstYear ≤ y) × (y ≤ lastYear) ⌝ }
+    ensures { λ r. ⌜ r ≡ leapDay y ⌝ }
+{
+    if (y % 4 == 0) & (y != 2100) { 1 } else { 0 }
 }
 
 // The days of a month of a year with l leap days.
@@ -46,14 +67,25 @@ pub fn last_of_month(y: u64, m: u64) -> u64
     month_length(leap_day(y), m)
 }
 
+// The same for a year of the calendar.
+pub(crate) fn last_in(y: u64, m: u64) -> u64
+    requires { ⌜ (firstYear ≤ y) × (y ≤ lastYear) ⌝ }
+    ensures { λ r. ⌜ r ≡ monthLength (leapDay y) m ⌝ }
+{
+    month_length(leap_day_in(y), m)
+}
+
 // Whether x is a date of the calendar.
 pub fn is_date(x: u64) -> bool
     ensures { λ r. ⌜ r ≡ isDate x ⌝ }
 {
     let y = x / 10000;
+    if (y < 2000) | (2199 < y) {
+        return false;
+    }
     let m = x / 100 % 100;
     let d = x % 100;
-    (2000 <= y) & (y <= 2199) & (1 <= m) & (m <= 12) & (1 <= d) & (d <= last_of_month(y, m))
+    (1 <= m) & (m <= 12) & (1 <= d) & (d <= last_in(y, m))
 }
 
 // Whether x is a date that an event or a row may have.
@@ -72,23 +104,24 @@ fn days_before(l: u64, m: u64) -> u64
     if 2 < m { b + l } else { b }
 }
 
-// The days before the year 2000 + k.
+// The days before the year 2000 + k. Of the years that 4 divides only 2100 has no leap day.
 fn year_start(k: u64) -> u64
     requires { ⌜ k ≤ 200 ⌝ }
     ensures { λ r. ⌜ r ≡ yearStart k ⌝ }
 {
-    365 * k + (k + 3) / 4 - (k + 99) / 100 + (k + 399) / 400
+    let days = 365 * k + (k + 3) / 4;
+    if 100 < k { days - 1 } else { days }
 }
 
 // The number of a date's day.
-fn number(x: u64) -> u64
+pub(crate) fn number(x: u64) -> u64
     requires { ⌜ isDate x ≡ true ⌝ }
     ensures { λ r. ⌜ r ≡ dayNumber x ⌝ }
 {
     let y = x / 10000;
     let m = x / 100 % 100;
     let d = x % 100;
-    year_start(y - 2000) + days_before(leap_day(y), m) + (d - 1)
+    year_start(y - 2000) + days_before(leap_day_in(y), m) + (d - 1)
 }
 
 pub fn day_number(x: u64) -> DayAnswer
@@ -100,13 +133,25 @@ pub fn day_number(x: u64) -> DayAnswer
     DayAnswer::NoDay
 }
 
-// The year, from 2000, of the day n.
-fn year_at(n: u64) -> u64
+// The day n, counted from 2101 on as if 2100 had a leap day: then every fourth year has one.
+fn in_fours(n: u64) -> u64
     requires { ⌜ n < calendarDays ⌝ }
-    ensures { λ r. ⌜ r ≡ yearAt n ⌝ }
+    ensures { λ r. ⌜ r ≡ cond (ltb n 36890) n (n + 1) ⌝ }
 {
-    let k = n / 366;
-    if year_start(k + 1) <= n { k + 1 } else { k }
+    if n < DAYS_TO_2101 { n } else { n + 1 }
+}
+
+// The year, from 2000, of the day n, and its day of that year, from 0.
+pub(crate) fn place_of(n: u64) -> Place
+    requires { ⌜ n < calendarDays ⌝ }
+    ensures { λ r. ⌜ (r .year ≡ yearAt n) × (r .day ≡ n - yearStart (yearAt n)) ⌝ }
+{
+    let m = in_fours(n);
+    let k = 4 * m / FOUR_YEARS;
+    Place {
+        year: k,
+        day: m - (FOUR_YEARS * k + 3) / 4,
+    }
 }
 
 // The month of the day r of a year with l leap days.
@@ -127,10 +172,10 @@ fn month_at(l: u64, r: u64) -> u64
 
 // The date of the day r of the year y.
 fn date_in(y: u64, r: u64) -> u64
-    requires { ⌜ (y ≤ 2199) × (r < 365 + leapDay y) ⌝ }
+    requires { ⌜ (firstYear ≤ y) × (y ≤ lastYear) × (r < 365 + leapDay y) ⌝ }
     ensures { λ x. ⌜ x ≡ dateIn y r ⌝ }
 {
-    let l = leap_day(y);
+    let l = leap_day_in(y);
     let m = month_at(l, r);
     y * 10000 + m * 100 + (r - days_before(l, m) + 1)
 }
@@ -140,8 +185,8 @@ fn date_at(n: u64) -> u64
     requires { ⌜ n < calendarDays ⌝ }
     ensures { λ r. ⌜ r ≡ dateAt n ⌝ }
 {
-    let k = year_at(n);
-    date_in(2000 + k, n - year_start(k))
+    let p = place_of(n);
+    date_in(2000 + p.year, p.day)
 }
 
 pub fn date_of(n: u64) -> DateAnswer

@@ -85,12 +85,12 @@ pub fn business_days_after(x: u64, n: BusinessDays) -> DateAnswer
 
 // The day d of the month that a count t of months leads to, or that month's last day.
 fn day_of_month(t: u64, d: u64) -> u64
-    requires { ⌜ (t < 26400) × (d ≤ 31) ⌝ }
+    requires { ⌜ (24000 ≤ t) × (t < 26400) × (d ≤ 31) ⌝ }
     ensures { λ r. ⌜ r ≡ dayOfMonthCount t d ⌝ }
 {
     let y = t / 12;
     let m = t % 12 + 1;
-    let last = gregorian::last_of_month(y, m);
+    let last = gregorian::last_in(y, m);
     let first = y * 10000 + m * 100;
     if d <= last { first + d } else { first + last }
 }
@@ -116,10 +116,12 @@ pub fn period_end(x: u64, p: Period) -> DateAnswer
     let DateAnswer::Date(month) = months_after(x, p.months) else {
         return DateAnswer::NoDate;
     };
-    let DateAnswer::Date(day) = days_after(month, p.days) else {
-        return DateAnswer::NoDate;
-    };
-    business_days_after(day, p.business)
+    let day = gregorian::number(month);
+    let days = p.days.0;
+    if days < CALENDAR_DAYS - day {
+        return open_after(day + days, p.business.0);
+    }
+    DateAnswer::NoDate
 }
 
 // Whether the date x comes after one that was worked out.

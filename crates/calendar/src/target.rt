@@ -1,10 +1,8 @@
 // Business days: specs/Target.
 ghost use mathlib.Core.Path.{_≡_};
-ghost use mathlib.Core.Bool.{true};
-ghost use Prim.Native.Nat.{_<_};
-ghost use Rattle.calendar.specs.Gregorian.{isDate};
-ghost use Rattle.calendar.specs.DayNumber.{calendarDays, dayNumber, inCalendar};
-ghost use Rattle.calendar.specs.Target.{closedBy, businessDay, isOpen, firstOpen, lastOpenBefore, dated, firstBusinessDay, lastBusinessDayBefore};
+ghost use Prim.Native.Nat.{_-_, _<_};
+ghost use Rattle.calendar.specs.DayNumber.{yearStart, calendarDays, yearAt, inCalendar};
+ghost use Rattle.calendar.specs.Target.{weekday, businessDay, isOpen, firstOpen, lastOpenBefore, dated, firstBusinessDay, lastBusinessDayBefore};
 use crate::DateAnswer;
 use crate::DayAnswer;
 use crate::easter;
@@ -12,31 +10,21 @@ use crate::gregorian;
 
 const CALENDAR_DAYS: u64 = 73049;
 
-// Whether the day n is closed, with md its month and day and e the number of its year's Easter Sunday.
-fn closed_by(n: u64, md: u64, e: u64) -> bool
-    requires { ⌜ (n < calendarDays) × (e < calendarDays) ⌝ }
-    ensures { λ r. ⌜ r ≡ closedBy n md e ⌝ }
+// Whether a day n from Monday to Friday, the day r from 0 of the year 2000 + k, is a business day. The table of
+// Easter is read only for a day from two before 22 March to the one after 25 April.
+fn open_in(k: u64, r: u64, n: u64) -> bool
+    requires { ⌜ (n < calendarDays) × (weekday n < 5) × (k ≡ yearAt n) × (r ≡ n - yearStart (yearAt n)) ⌝ }
+    ensures { λ b. ⌜ b ≡ isOpen n ⌝ }
 {
-    let weekday = (n + 5) % 7;
-    (weekday == 5)
-        | (weekday == 6)
-        | (md == 101)
-        | (n + 2 == e)
-        | (n == e + 1)
-        | (md == 501)
-        | (md == 1225)
-        | (md == 1226)
-}
-
-// Whether the day n, whose date is x, is a business day.
-fn open_on(n: u64, x: u64) -> bool
-    requires { ⌜ (isDate x ≡ true) × (n ≡ dayNumber x) ⌝ }
-    ensures { λ r. ⌜ r ≡ businessDay x ⌝ }
-{
-    match easter::easter_day(x / 10000) {
-        DayAnswer::Day(e) => !closed_by(n, x % 10000, e),
-        DayAnswer::NoDay => false,
+    let l = gregorian::leap_day_in(2000 + k);
+    if (r == 0) | (r == 120 + l) | (r == 358 + l) | (r == 359 + l) {
+        return false;
     }
+    if (r < 78) | (116 < r) {
+        return true;
+    }
+    let sunday = easter::easter_place(k, l);
+    (r + 2 != sunday) & (r != sunday + 1)
 }
 
 // Whether x is a date and a business day.
@@ -44,7 +32,7 @@ pub fn is_business_day(x: u64) -> bool
     ensures { λ r. ⌜ r ≡ businessDay x ⌝ }
 {
     match gregorian::day_number(x) {
-        DayAnswer::Day(n) => open_on(n, x),
+        DayAnswer::Day(n) => is_open(n),
         DayAnswer::NoDay => false,
     }
 }
@@ -53,10 +41,14 @@ pub fn is_business_day(x: u64) -> bool
 pub fn is_open(n: u64) -> bool
     ensures { λ r. ⌜ r ≡ isOpen n ⌝ }
 {
-    match gregorian::date_of(n) {
-        DateAnswer::Date(x) => open_on(n, x),
-        DateAnswer::NoDate => false,
+    if CALENDAR_DAYS <= n {
+        return false;
     }
+    if 5 <= (n + 5) % 7 {
+        return false;
+    }
+    let p = gregorian::place_of(n);
+    open_in(p.year, p.day, n)
 }
 
 // The first business day on or after the day n.

@@ -68,10 +68,6 @@ dateOf-date n x e =
     let p = cond-date (ltb n calendarDays) (dateAt n) x e in
     (ltb-true n calendarDays (p .0), p .1)
 
-pub dateOf-none : (n : ℕ) → dateOf n ≡ NoDate → calendarDays ≤ n
-unfolding dateOf
-dateOf-none n e = ltb-false n calendarDays (cond-no-date (ltb n calendarDays) (dateAt n) e)
-
 -- ---- inCalendar
 
 pub inCalendar-is : (n : ℕ) → n < calendarDays → inCalendar n ≡ Day n

@@ -46,6 +46,10 @@ firstBusinessDay-none x e = rw (dayOf-none x e)
 pub keptDate : ℕ → ℕ
 keptDate x = dateAt (firstOpen (dayNumber x))
 
+pub keptDate-day : (x : ℕ) → keptDate x ≡ dateAt (firstOpen (dayNumber x))
+unfolding keptDate
+keptDate-day x = refl
+
 module _ (x : ℕ) (h : isDate x ≡ true) where
   pub firstBusinessDay-is : firstBusinessDay x ≡ Date (keptDate x)
   unfolding firstBusinessDay keptDate

@@ -1,14 +1,16 @@
 -- Laws of specs/Target: the first business day on or after a day, the n-th after it, the last one before it.
 -- To cite: `firstOpen-first`, `firstOpen-lt`, `firstOpen-near`, `firstOpen-mono`; `openAfter-more`, `openAfter-from`, `openAfter-near`,
--- `openAfter-mono`, `openAfter-count`; `lastOpen-last`, `lastOpen-is`, `lastOpen-exists`. Assumes nothing.
-use mathlib.Core.Path.{_≡_, refl, ap}
-use mathlib.Core.Bool.{Bool, true, false, cond}
+-- `openAfter-mono`, `openAfter-count`; `lastOpen-last`, `lastOpen-is`, `lastOpen-exists`, `first-before`. Assumes nothing.
+use mathlib.Core.Path.{_≡_, refl, sym, ap, _∙_}
+use mathlib.Core.Bool.{Bool, true, false, cond, not}
 use mathlib.Core.Logic.{⊎-elim}
 use Prim.Native.Nat.{ℕ, zero, suc, _+_, _-_, _*_, _≤_, _<_}
 use native.Mathlib.Nat.{eq-or-lt-of-le}
 use native.Mathlib.Numerals.{add-one}
-use native.Mathlib.Decide.{le-ind}
+use native.Mathlib.Decide.{le-ind, decLe}
 use native.Mathlib.Omega.{arith}
+use lib.Dec.{ltb}
+use borrow.Author.Tests.{lt-ltb, le-ltb}
 use Rattle.common.proofs.Tests.{never}
 use Rattle.calendar.specs.DayNumber.{calendarDays}
 use Rattle.calendar.specs.Target.{isOpen, First, seek, firstOpen, openAfter, Last, lastOpenBefore}
@@ -216,6 +218,19 @@ lastOpen-exists n l h =
       last = i .last;
       near = omega (arith, i .from, f .from);
     }
+
+-- a day is not after the last business day before n exactly if its own first one is before n
+pub first-before : (d n r : ℕ) → d < calendarDays → Last n r → not (ltb r d) ≡ ltb (firstOpen d) n
+first-before d n r h l =
+    let f = firstOpen-first d h in
+    elim (decLe d r) [
+      | yes a ↦
+          let p : ¬ (r < firstOpen d) = λ s. never (l .is-open) (f .shut r a s) in
+          ap not (le-ltb r d a) ∙ sym (lt-ltb (firstOpen d) n (omega (arith, l .before)))
+      | no a ↦
+          let p : ¬ (firstOpen d < n) = λ s. never (f .is-open) (l .shut (firstOpen d) (omega (arith, f .from)) s) in
+          ap not (lt-ltb r d (omega arith)) ∙ sym (le-ltb (firstOpen d) n (omega arith))
+    ]
 
 pub last-mono : (n m r s : ℕ) → n ≤ m → Last n r → Last m s → r ≤ s
 last-mono n m r s h a b =

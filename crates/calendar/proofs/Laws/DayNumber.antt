@@ -1,5 +1,5 @@
 -- Laws of specs/DayNumber: from a date to its day number and back.
--- To cite: `dayNumber-lt`, `dateAt-date`, `dateAt-dayNumber`, `dayNumber-dateAt` (inverse), `dayNumber-mono`,
+-- To cite: `dayNumber-lt`, `dateAt-date`, `on-date`, `dateAt-dayNumber`, `dayNumber-dateAt` (inverse), `dayNumber-mono`,
 -- `dayNumber-reflects`, `dateAt-mono` (order). Assumes nothing.
 use mathlib.Core.Path.{_≡_, refl, sym, ap, _∙_}
 use mathlib.Core.Bool.{true}
@@ -70,6 +70,13 @@ dateAt-number y m d v =
     in
     rw (k, e, number-rest y m d, month-unique (leapDay y) (leapDay-le y) _ m o) (omega arith)
 
+-- the same, by the year's number
+pub on-date : (k m d : ℕ) → Valid (firstYear + k) m d → dateAt (yearStart k + daysBefore (leapDay (firstYear + k)) m + (d - 1)) ≡ dateOfParts (firstYear + k) m d
+unfolding number
+on-date k m d v =
+    let e : firstYear + k - firstYear ≡ k = omega arith in
+    rw e at (dateAt-number (firstYear + k) m d v)
+
 pub dateAt-dayNumber : (x : ℕ) → isDate x ≡ true → dateAt (dayNumber x) ≡ x
 dateAt-dayNumber x e =
     ap dateAt (dayNumber-parts x) ∙ dateAt-number (year x) (month x) (dayOfMonth x) (date-valid x e) ∙ date-parts x
@@ -87,10 +94,6 @@ in-year y r m h1 h2 o =
       first = omega arith;
       last = omega arith;
     }
-
-in-year-number : (y r m : ℕ) → MonthOf (leapDay y) r m → number y m (r - daysBefore (leapDay y) m + 1) ≡ yearStart (y - firstYear) + r
-unfolding number
-in-year-number y r m o = omega arith
 
 -- the parts of the date of the day n, its month m and its day d of the month
 pub record PartsOf (n m d : ℕ) : Type 0 where

@@ -1,24 +1,23 @@
 -- Laws of specs/Easter: the table of the code, and where Easter lies.
 -- To cite: `table-easter` (the table is the computus), `EasterFacts` with `easter-facts`. Assumes nothing.
-use mathlib.Core.Path.{_≡_, sym}
+use mathlib.Core.Path.{_≡_, sym, ap}
 use mathlib.Core.List.{List, [], _∷_}
-use mathlib.Core.Bool.{Bool, true, _&&_}
+use mathlib.Core.Bool.{Bool, true, cond}
 use Prim.Native.Nat.{ℕ, _+_, _-_, _*_, _%_, _≤_, _<_}
 use native.Mathlib.Omega.{arith}
-use lib.Dec.{leb, eqb}
+use lib.Dec.{ltb, leb, eqb}
 use lib.ListN.{getD}
-use borrow.Author.Tests.{leb-true, eqb-true, le-leb}
+use borrow.Author.Tests.{leb-true, eqb-true}
 use denote.Floats.{is-true}
 use Rattle.common.proofs.Every.{entry, below}
-use Rattle.common.proofs.Tests.{and-halves}
-use Rattle.calendar.specs.Gregorian.{year, leap, leapDay, monthLength, isDate, firstYear, lastYear}
-use Rattle.calendar.specs.DayNumber.{calendarDays, yearStart, daysBefore, dayNumber, dayOf}
+use Rattle.common.proofs.Tests.{and-halves, allOf-at}
+use Rattle.common.specs.Tests.{allOf}
+use Rattle.calendar.specs.Gregorian.{year, monthDay, leap, leapDay, monthLength, isDate, firstYear, lastYear}
+use Rattle.calendar.specs.DayNumber.{yearStart, daysBefore, dayNumber, dayOf}
 use Rattle.calendar.specs.Easter.{computus, easterSunday, inTable, easterOf, easterDayOf}
-use Rattle.calendar.specs.declared.DayAnswer.the-variants.{Day, NoDay}
+use Rattle.calendar.specs.declared.DayAnswer.the-variants.{NoDay}
 use Rattle.calendar.specs.declared.DateAnswer.the-variants.{Date, NoDate}
 use Rattle.calendar.proofs.Laws.Answers.{cond-date, cond-no-date, dayOf-is}
-use Rattle.calendar.proofs.Laws.Gregorian.{date-valid}
-use Rattle.calendar.proofs.Laws.DayNumber.{dayNumber-lt}
 
 -- ---- the table
 
@@ -48,61 +47,60 @@ table =
     ∷ []
 
 right? : ℕ → ℕ → Bool
-right? k md = eqb ((firstYear + k) * 10000 + md) (easterSunday (firstYear + k)) && leb md 425
+right? k md = eqb md (monthDay (easterSunday (firstYear + k)))
 
-record Right (k md : ℕ) : Type 0 where
-  date : (firstYear + k) * 10000 + md ≡ easterSunday (firstYear + k)
-  small : md ≤ 425
-
--- one test over all 200 entries
-table-right : (k : ℕ) → k < 200 → Right k (getD table k 0)
+-- one test over all 200 entries, carried to every year
+pub table-easter : (k : ℕ) → k < 200 → getD table k 0 ≡ monthDay (easterSunday (firstYear + k))
 unfolding right? easterSunday computus
-table-right k h =
-    let p = and-halves _ (is-true _ (entry right? table tt k h)) in
-    record { date = eqb-true _ _ (p .0); small = leb-true _ _ (p .1) }
-
--- carried to every year of the table
-module _ (y : ℕ) (h1 : firstYear ≤ y) (h2 : y ≤ lastYear) where
-  pub table-easter : y * 10000 + getD table (y - firstYear) 0 ≡ easterSunday y
-  table-easter =
-      let e : firstYear + (y - firstYear) ≡ y = omega arith in
-      rw e at (table-right (y - firstYear) (omega arith) .date)
-
-  pub table-small : getD table (y - firstYear) 0 ≤ 425
-  table-small = table-right (y - firstYear) (omega arith) .small
+table-easter k h = eqb-true _ _ (is-true _ (entry right? table tt k h))
 
 -- ---- where Easter lies
 
-facts? : ℕ → Bool
-facts? k =
+-- the day, from 0, of MMDD in March or April of a year with l leap days
+abbrev pub springDay : ℕ → ℕ → ℕ
+springDay l md = cond (ltb md 400) (59 + l + md - 301) (90 + l + md - 401)
+
+abbrev facts : ℕ → List Bool
+facts k =
     isDate (easterSunday (firstYear + k))
-    && eqb (year (easterSunday (firstYear + k))) (firstYear + k)
-    && eqb (dayNumber (easterSunday (firstYear + k)) % 7) 1
-    && leb (yearStart k + 80) (dayNumber (easterSunday (firstYear + k)))
-    && leb (dayNumber (easterSunday (firstYear + k))) (yearStart k + 115)
+    ∷ eqb (year (easterSunday (firstYear + k))) (firstYear + k)
+    ∷ eqb (dayNumber (easterSunday (firstYear + k)) % 7) 1
+    ∷ leb 322 (monthDay (easterSunday (firstYear + k)))
+    ∷ leb (monthDay (easterSunday (firstYear + k))) 425
+    ∷ leb (yearStart k + 80) (dayNumber (easterSunday (firstYear + k)))
+    ∷ leb (dayNumber (easterSunday (firstYear + k))) (yearStart k + 115)
+    ∷ eqb (yearStart k + springDay (leapDay (firstYear + k)) (monthDay (easterSunday (firstYear + k)))) (dayNumber (easterSunday (firstYear + k)))
+    ∷ []
+
+facts? : ℕ → Bool
+facts? k = allOf (facts k)
 
 -- Easter Sunday of the year y is a date of that year, a Sunday, from 22 March to 25 April
 pub record EasterFacts (y : ℕ) : Type 0 where
   pub is-date : isDate (easterSunday y) ≡ true
   pub of-year : year (easterSunday y) ≡ y
   pub sunday : dayNumber (easterSunday y) % 7 ≡ 1
+  pub march : 322 ≤ monthDay (easterSunday y)
+  pub april : monthDay (easterSunday y) ≤ 425
   pub from : yearStart (y - firstYear) + 80 ≤ dayNumber (easterSunday y)
   pub to : dayNumber (easterSunday y) ≤ yearStart (y - firstYear) + 115
+  pub place : yearStart (y - firstYear) + springDay (leapDay y) (monthDay (easterSunday y)) ≡ dayNumber (easterSunday y)
 
+-- one test over all years
 facts-at : (k : ℕ) → k < 200 → EasterFacts (firstYear + k)
 unfolding facts? easterSunday computus dayNumber yearStart daysBefore isDate monthLength leapDay leap
 facts-at k h =
     let e : firstYear + k - firstYear ≡ k = omega arith in
-    let p4 = and-halves _ (is-true _ (below facts? 200 tt k h)) in
-    let p3 = and-halves _ (p4 .0) in
-    let p2 = and-halves _ (p3 .0) in
-    let p1 = and-halves (isDate (easterSunday (firstYear + k))) (p2 .0) in
+    let t = is-true _ (below facts? 200 tt k h) in
     record {
-      is-date = p1 .0;
-      of-year = eqb-true _ _ (p1 .1);
-      sunday = eqb-true _ _ (p2 .1);
-      from = rw e (leb-true _ _ (p3 .1));
-      to = rw e (leb-true _ _ (p4 .1));
+      is-date = allOf-at (facts k) 0 t;
+      of-year = eqb-true _ _ (allOf-at (facts k) 1 t);
+      sunday = eqb-true _ _ (allOf-at (facts k) 2 t);
+      march = leb-true _ _ (allOf-at (facts k) 3 t);
+      april = leb-true _ _ (allOf-at (facts k) 4 t);
+      from = rw e (leb-true _ _ (allOf-at (facts k) 5 t));
+      to = rw e (leb-true _ _ (allOf-at (facts k) 6 t));
+      place = rw e (eqb-true _ _ (allOf-at (facts k) 7 t));
     }
 
 pub easter-facts : (y : ℕ) → firstYear ≤ y → y ≤ lastYear → EasterFacts y
@@ -117,11 +115,12 @@ table-years y e =
     let p = and-halves (leb firstYear y) e in
     (leb-true _ _ (p .0), leb-true _ _ (p .1))
 
-pub easterOf-is : (y : ℕ) → inTable y ≡ true → easterOf y ≡ Date (y * 10000 + getD table (y - firstYear) 0)
+pub easterOf-is : (y : ℕ) → inTable y ≡ true → easterOf y ≡ Date (y * 10000 + monthDay (easterSunday y))
 unfolding easterOf
 easterOf-is y e =
     let h = table-years y e in
-    rw (e, table-easter y (h .0) (h .1))
+    let d : easterSunday y ≡ y * 10000 + monthDay (easterSunday y) = omega (arith, easter-facts y (h .0) (h .1) .of-year) in
+    rw e (ap Date d)
 
 -- the day of the date that was answered
 pub easterDayOf-date : (y x : ℕ) → easterOf y ≡ Date x → easterDayOf y ≡ dayOf x
@@ -134,16 +133,3 @@ easterDayOf-date y x e =
 pub easterDayOf-none : (y : ℕ) → easterOf y ≡ NoDate → easterDayOf y ≡ NoDay
 unfolding easterOf easterDayOf
 easterDayOf-none y e = rw (cond-no-date (inTable y) (easterSunday y) e)
-
--- every date's year has its Easter Sunday, a day of the calendar
-module _ (x : ℕ) (h : isDate x ≡ true) where
-  pub easterDayOf-year : easterDayOf (year x) ≡ Day (dayNumber (easterSunday (year x)))
-  unfolding easterDayOf
-  easterDayOf-year =
-      let v = date-valid x h in
-      rw (le-leb firstYear (year x) (v .from), le-leb (year x) lastYear (v .to))
-
-  pub easterDay-lt : dayNumber (easterSunday (year x)) < calendarDays
-  easterDay-lt =
-      let v = date-valid x h in
-      dayNumber-lt _ (easter-facts (year x) (v .from) (v .to) .is-date)

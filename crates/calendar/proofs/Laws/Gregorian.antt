@@ -1,12 +1,14 @@
--- Laws of specs/Gregorian. To cite: `Valid` with `date-valid` and `valid-date` (the tests of a date, by name),
--- `InRange` with `range-facts`. Assumes nothing.
+-- Laws of specs/Gregorian. To cite: `leapDay-in`, `no-year`, `Valid` with `date-valid` and `valid-date` (the tests of a date, by
+-- name), `InRange` with `range-facts`. Assumes nothing.
 use mathlib.Core.Path.{_≡_}
-use mathlib.Core.Bool.{Bool, true, false, cond, _&&_, _||_}
-use Prim.Native.Nat.{ℕ, _+_, _≤_}
+use mathlib.Core.Bool.{Bool, true, false, cond, not, _&&_, _||_}
+use mathlib.Core.Logic.{⊎-elim}
+use Prim.Native.Nat.{ℕ, _+_, _-_, _%_, _≤_, _<_}
 use native.Mathlib.Omega.{arith}
-use lib.Dec.{leb, eqb, lit≤}
-use borrow.Author.Tests.{leb-true, le-leb}
-use Rattle.common.proofs.Tests.{and-halves}
+use lib.Dec.{leb, ltb, eqb, eqb→eq, lit≤}
+use borrow.Author.Tests.{leb-true, le-leb, ltb-true}
+use Rattle.common.proofs.Every.{below}
+use Rattle.common.proofs.Tests.{and-halves, or-cases, false-unless}
 use Rattle.calendar.specs.Gregorian.{year, month, dayOfMonth, dateOfParts, leap, leapDay, monthLength, isDate, inRange, firstYear, lastYear, firstDate, lastDate}
 
 -- ---- leapDay, monthLength
@@ -18,6 +20,22 @@ bit-le false = lit≤ tt
 pub leapDay-le : (y : ℕ) → leapDay y ≤ 1
 unfolding leapDay
 leapDay-le y = bit-le (leap y)
+
+-- of the calendar's years that 4 divides only 2100 is no leap year
+by-four : ℕ → ℕ
+by-four y = cond (eqb (y % 4) 0 && not (eqb y 2100)) 1 0
+
+by-four-is : (k : ℕ) → k < 200 → by-four (firstYear + k) ≡ leapDay (firstYear + k)
+unfolding by-four leapDay leap
+by-four-is k h =
+    eqb→eq (by-four (firstYear + k)) (leapDay (firstYear + k))
+    (below (λ j. eqb (by-four (firstYear + j)) (leapDay (firstYear + j))) 200 tt k h)
+
+pub leapDay-in : (y : ℕ) → firstYear ≤ y → y ≤ lastYear → cond (eqb (y % 4) 0 && not (eqb y 2100)) 1 0 ≡ leapDay y
+unfolding by-four
+leapDay-in y a b =
+    let e : firstYear + (y - firstYear) ≡ y = omega arith in
+    rw e at (by-four-is (y - firstYear) (omega arith))
 
 length-le : (a b : Bool) (l : ℕ) → l ≤ 1 → cond a (28 + l) (cond b 30 31) ≤ 31
 length-le true b l h = omega arith
@@ -91,6 +109,15 @@ valid-is x v =
       le-leb _ _ (v .first),
       le-leb _ _ (v .last),
     )
+
+-- the years before and after the calendar have none
+pub no-year : (x : ℕ) → ltb (year x) firstYear || ltb lastYear (year x) ≡ true → isDate x ≡ false
+no-year x o =
+    false-unless (isDate x) λ e.
+    let v = date-valid x e in
+    ⊎-elim (λ (p : ltb (year x) firstYear ≡ true). omega (arith, ltb-true (year x) firstYear p))
+    (λ (p : ltb lastYear (year x) ≡ true). omega (arith, ltb-true lastYear (year x) p))
+    (or-cases (ltb (year x) firstYear) o)
 
 pub valid-day-le : {y m d : ℕ} → Valid y m d → d ≤ 31
 valid-day-le {y} {m} {d} v = omega (arith, monthLength-le (leapDay y) m (leapDay-le y))

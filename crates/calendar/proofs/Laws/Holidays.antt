@@ -1,7 +1,7 @@
 -- Of any five days in a row one is a business day. The closing days of all years stand in one rising sequence, three of
--- which are never within five days; the weekend is two days of seven. To cite: `first-near`. Assumes nothing.
+-- which are never within five days; the weekend is two days of seven. To cite: `on-day`, `first-near`. Assumes nothing.
 use mathlib.Core.Path.{_≡_, ap}
-use mathlib.Core.Bool.{Bool, true, false, not, _&&_}
+use mathlib.Core.Bool.{Bool, true, false, _&&_}
 use mathlib.Core.Logic.{_⊎_, inl, inr, ⊎-elim}
 use mathlib.Core.List.{List, [], _∷_}
 use Prim.Native.Nat.{ℕ, _+_, _-_, _*_, _/_, _%_, _≤_, _<_}
@@ -127,7 +127,7 @@ module _ (n : ℕ) (h : n < calendarDays) where
       record { place = yearAt n * 6 + i; in-table = omega arith; is = rw (q, r) e }
 
   -- the day d of the month m is where the sequence has it
-  on-day : (m d : ℕ) → d ≤ 31 → monthDay (dateAt n) ≡ m * 100 + d → n ≡ yearStart (yearAt n) + (daysBefore (leapDay (firstYear + yearAt n)) m + (d - 1))
+  pub on-day : (m d : ℕ) → d ≤ 31 → monthDay (dateAt n) ≡ m * 100 + d → n ≡ yearStart (yearAt n) + (daysBefore (leapDay (firstYear + yearAt n)) m + (d - 1))
   on-day m d hd e =
       let p = parts-of n h in
       let b = valid-day-le (p .valid) in

@@ -1,4 +1,5 @@
--- Laws of specs/Periods: months, one after the other. To cite: `months-after` (there is a date, and how far it lies), `monthsAfter-mono`. Assumes nothing.
+-- Laws of specs/Periods: months, one after the other. To cite: `months-after` (there is a date, and how far it lies), `monthsAfter-is-date`,
+-- `monthsAfter-mono`. Assumes nothing.
 use mathlib.Core.Path.{_≡_, refl, ap, _∙_}
 use mathlib.Core.Bool.{true}
 use mathlib.Core.Logic.{⊎-elim}
@@ -161,6 +162,13 @@ months-after n x h l =
             count-number (monthCount (n .0) x) (dayOfMonth x) (omega arith) l (v .first),
           );
     }
+
+pub monthsAfter-is-date : (n : Months) (x r : ℕ) → monthsAfter n x ≡ Date r → isDate r ≡ true
+monthsAfter-is-date n x r e =
+    let p = monthsAfter-date n x r e in
+    let a = months-after n x (p .is-date) (p .inside) in
+    let q : a .date ≡ r = cc in
+    rw q at (a .is-date)
 
 -- ---- monthsAfter keeps the order
 

@@ -1,7 +1,8 @@
 -- Laws of specs/Periods: what the answers are.
--- To cite: the laws named F-day and F-none (from a date that there is, or is not), `monthsAfter-is`, `periodEnd-is`. Assumes nothing.
-use mathlib.Core.Path.{_≡_, refl, sym, _∙_}
-use mathlib.Core.Bool.{Bool, true, false, cond, _&&_}
+-- To cite: the laws named F-day and F-none (from a date that there is, or is not), `monthsAfter-is`, `periodEnd-is`,
+-- `periodEnd-day`, `isAfter-dateOf`, `isAfter-daysAfter`, `not-after-last`. Assumes nothing.
+use mathlib.Core.Path.{_≡_, refl, sym, ap, _∙_}
+use mathlib.Core.Bool.{Bool, true, false, cond, not, _&&_}
 use Prim.Native.Nat.{ℕ, _+_, _-_, _*_, _/_, _%_, _≤_, _<_}
 use native.Mathlib.Decide.{decLe}
 use native.Mathlib.Omega.{arith}
@@ -9,9 +10,9 @@ use lib.Dec.{leb, ltb}
 use borrow.Author.Tests.{le-leb, lt-leb, lt-ltb, le-ltb, ltb-true}
 use Rattle.common.proofs.Tests.{and-halves}
 use Rattle.calendar.specs.Gregorian.{year, month, dayOfMonth, dateOfParts, leapDay, monthLength, isDate, lastYear}
-use Rattle.calendar.specs.DayNumber.{dayNumber, dayOf, dateOf}
-use Rattle.calendar.specs.Target.{openAfter}
-use Rattle.calendar.specs.Periods.{daysAfter, daysBetween, businessDaysAfter, monthCount, dayOfMonthCount, monthsAfter, periodEnd}
+use Rattle.calendar.specs.DayNumber.{calendarDays, dayNumber, dayOf, dateAt, dateOf}
+use Rattle.calendar.specs.Target.{firstOpen, openAfter, lastBusinessDayBefore}
+use Rattle.calendar.specs.Periods.{daysAfter, daysBetween, businessDaysAfter, monthCount, dayOfMonthCount, monthsAfter, periodEnd, isAfter}
 use Rattle.calendar.specs.declared.CalendarDays.{CalendarDays}
 use Rattle.calendar.specs.declared.BusinessDays.{BusinessDays}
 use Rattle.calendar.specs.declared.Months.{Months}
@@ -20,8 +21,9 @@ use Rattle.calendar.specs.declared.DayAnswer.the-variants.{Day, NoDay}
 use Rattle.calendar.specs.declared.DateAnswer.the-variants.{Date, NoDate}
 use Rattle.calendar.specs.declared.DaysAnswer.{DaysAnswer}
 use Rattle.calendar.specs.declared.DaysAnswer.the-variants.{Days, NoDays}
-use Rattle.calendar.proofs.Laws.DayNumber.{dayNumber-mono, dayNumber-mono-le}
-use Rattle.calendar.proofs.Laws.Answers.{cond-date, dayOf-day, dayOf-none}
+use Rattle.calendar.proofs.Laws.DayNumber.{dayNumber-lt, dateAt-date, dayNumber-dateAt, dayNumber-mono, dayNumber-mono-le, dayNumber-reflects, dayNumber-reflects-le}
+use Rattle.calendar.proofs.Laws.Answers.{cond-date, dateOf-is, dateOf-beyond, dayOf-day, dayOf-none}
+use Rattle.calendar.proofs.Laws.BusinessDays.{lastOpen-exists, first-before}
 
 -- ---- daysAfter
 
@@ -133,6 +135,50 @@ module _ (p : Period) (x : ℕ) where
   unfolding periodEnd
   periodEnd-no-months e = rw e
 
-  pub periodEnd-no-days : (m : ℕ) → monthsAfter (p .months) x ≡ Date m → daysAfter (p .days) m ≡ NoDate → periodEnd p x ≡ NoDate
-  unfolding periodEnd
-  periodEnd-no-days m e f = rw (e, f)
+  -- by the number of the day some months after
+  module _ (m : ℕ) (e : monthsAfter (p .months) x ≡ Date m) (h : isDate m ≡ true) where
+    pub periodEnd-day : dayNumber m + p .days .0 < calendarDays → periodEnd p x ≡ dateOf (openAfter (p .business .0) (dayNumber m + p .days .0))
+    unfolding daysAfter businessDaysAfter
+    periodEnd-day l =
+        let k = dayNumber m + p .days .0 in
+        periodEnd-is m (dateAt k) e (rw h (dateOf-is k l))
+        ∙ rw (dateAt-date k l, dayNumber-dateAt k l)
+
+    pub periodEnd-beyond : calendarDays ≤ dayNumber m + p .days .0 → periodEnd p x ≡ NoDate
+    unfolding periodEnd daysAfter
+    periodEnd-beyond l = rw (e, h, dateOf-beyond (dayNumber m + p .days .0) l)
+
+-- ---- isAfter: a date and one that was worked out are compared as their days are
+
+-- nothing is after what lies beyond the calendar
+after-beyond : (x n : ℕ) → isDate x ≡ true → calendarDays ≤ n → isAfter x (dateOf n) ≡ ltb n (dayNumber x)
+after-beyond x n h l =
+    ap (isAfter x) (dateOf-beyond n l) ∙ sym (le-ltb n (dayNumber x) (omega (arith, dayNumber-lt x h)))
+
+after-inside : (x n : ℕ) → isDate x ≡ true → n < calendarDays → isAfter x (dateOf n) ≡ ltb n (dayNumber x)
+after-inside x n h l =
+    let d = dateAt-date n l in
+    let e = dayNumber-dateAt n l in
+    ap (isAfter x) (dateOf-is n l)
+    ∙ elim (decLe (dayNumber x) n) [
+      | yes a ↦ le-ltb (dateAt n) x (dayNumber-reflects-le x (dateAt n) h d (rw e a)) ∙ sym (le-ltb n (dayNumber x) a)
+      | no a ↦
+          lt-ltb (dateAt n) x (dayNumber-reflects (dateAt n) x d h (rw e (omega arith))) ∙ sym (lt-ltb n (dayNumber x) (omega arith))
+    ]
+
+pub isAfter-dateOf : (x n : ℕ) → isDate x ≡ true → isAfter x (dateOf n) ≡ ltb n (dayNumber x)
+isAfter-dateOf x n h =
+    elim (decLe calendarDays n) [ yes l ↦ after-beyond x n h l | no l ↦ after-inside x n h (omega arith) ]
+
+module _ (x y : ℕ) (v : isDate x ≡ true) (w : isDate y ≡ true) where
+  pub isAfter-daysAfter : (n : CalendarDays) → isAfter y (daysAfter n x) ≡ ltb (dayNumber x + n .0) (dayNumber y)
+  unfolding daysAfter
+  isAfter-daysAfter n = rw v (isAfter-dateOf y (dayNumber x + n .0) w)
+
+  -- a date is in time for the last business day before another exactly if its own first one is before it
+  pub not-after-last : 5 ≤ dayNumber y → not (isAfter x (lastBusinessDayBefore y)) ≡ ltb (firstOpen (dayNumber x)) (dayNumber y)
+  unfolding lastBusinessDayBefore
+  not-after-last l =
+      let i = lastOpen-exists (dayNumber y) l (dayNumber-lt y w) in
+      rw (w, i .is)
+      (ap not (isAfter-dateOf x (i .day) v) ∙ first-before (dayNumber x) (dayNumber y) (i .day) (dayNumber-lt x v) (i .last))

@@ -1,17 +1,10 @@
 -- The promises of specs/Promises, proved. Assumes nothing.
 use mathlib.Core.Path.{_≡_, ap}
-use mathlib.Core.Bool.{Bool, false, _&&_}
-use Prim.Native.Nat.{ℕ, zero, suc, _+_, _-_, _*_, _≤_, _<_}
+use mathlib.Core.Bool.{false}
+use Prim.Native.Nat.{ℕ, zero, suc, _+_, _-_, _<_}
 use native.Mathlib.Numerals.{add-one}
 use native.Mathlib.Omega.{arith}
-use lib.Dec.{leb}
-use borrow.Author.Tests.{leb-true}
-use denote.Floats.{is-true}
-use Rattle.common.proofs.Every.{below}
-use Rattle.common.proofs.Tests.{and-halves}
-use Rattle.calendar.specs.Gregorian.{firstYear}
 use Rattle.calendar.specs.DayNumber.{calendarDays}
-use Rattle.calendar.specs.Easter.{computus, easterSunday}
 use Rattle.calendar.specs.Target.{isOpen, First, openAfter}
 use Rattle.calendar.specs.Promises.{Conversions, EasterSundays, FirstBusinessDay, businessDaysIn, NthBusinessDay, LastBusinessDay, KeptDue, PeriodsEnd}
 use Rattle.calendar.proofs.Laws.Gregorian.{range-facts}
@@ -34,23 +27,15 @@ conversions =
 
 -- ---- Easter
 
-span? : ℕ → Bool
-span? k =
-    leb ((firstYear + k) * 10000 + 322) (easterSunday (firstYear + k))
-    && leb (easterSunday (firstYear + k)) ((firstYear + k) * 10000 + 425)
-
-span : (k : ℕ) → k < 200 → ((firstYear + k) * 10000 + 322 ≤ easterSunday (firstYear + k)) × (easterSunday (firstYear + k) ≤ (firstYear + k) * 10000 + 425)
-unfolding span? easterSunday computus
-span k h =
-    let p = and-halves (leb ((firstYear + k) * 10000 + 322) (easterSunday (firstYear + k))) (is-true _ (below span? 200 tt k h)) in
-    (leb-true _ _ (p .0), leb-true _ _ (p .1))
-
 pub easter-sundays : EasterSundays
 easter-sundays y h1 h2 =
     let f = easter-facts y h1 h2 in
-    let e : firstYear + (y - firstYear) ≡ y = omega arith in
-    let s = rw e at (span (y - firstYear) (omega arith)) in
-    record { is-date = f .is-date; sunday = omega (arith, f .sunday); from = s .0; to = s .1 }
+    record {
+      is-date = f .is-date;
+      sunday = omega (arith, f .sunday);
+      from = omega (arith, f .of-year, f .march);
+      to = omega (arith, f .of-year, f .april);
+    }
 
 -- ---- business days
 

@@ -17,7 +17,7 @@ bounds : (c : tie.After-days-before) → c .before .before .year-start .result �
 bounds c =
     let v = parts (c .before .before .before) in (
       rw (c .before .before .year-start .ensures) (yearStart-le _ (omega arith)),
-      rw (c .days-before .ensures, c .before .leap-day .ensures)
+      rw (c .days-before .ensures, c .before .leap-day-in .ensures)
           (daysBefore-le _ _ (leapDay-le _) (v .january) (v .december)),
     )
 
@@ -27,13 +27,13 @@ sub-year-start c = omega (arith, parts c)
 year-start-requires : tie.Need-year-start-requires
 year-start-requires c κs = omega (arith, parts c)
 
-leap-day-requires : tie.Need-leap-day-requires
-leap-day-requires c κs = search needs
+leap-day-in-requires : tie.Need-leap-day-in-requires
+leap-day-in-requires c κs = let v = parts (c .before) in (v .from, v .to)
 
 days-before-requires : tie.Need-days-before-requires
 days-before-requires c κs =
     let v = parts (c .before .before) in
-    (rw (c .leap-day .ensures) (leapDay-le _), v .january, v .december)
+    (rw (c .leap-day-in .ensures) (leapDay-le _), v .january, v .december)
 
 add-result : tie.Need-add-result
 add-result c = omega (arith, bounds c)
@@ -46,7 +46,7 @@ add-result-2 c = omega (arith, bounds c)
 
 returns : tie.Need-returns
 unfolding dayNumber
-returns c = simp (c .before .before .year-start .ensures, c .days-before .ensures, c .before .leap-day .ensures)
+returns c = simp (c .before .before .year-start .ensures, c .days-before .ensures, c .before .leap-day-in .ensures)
 
 pub number-spec : {M : Type 1} → statement M
 number-spec =
@@ -54,7 +54,7 @@ number-spec =
     (tie.spec
     sub-year-start
     year-start-requires
-    leap-day-requires
+    leap-day-in-requires
     days-before-requires
     add-result
     sub-result

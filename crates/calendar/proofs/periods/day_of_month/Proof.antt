@@ -8,8 +8,8 @@ use Rattle.calendar.proofs.periods.day_of_month.Tie as tie
 add-m : tie.Need-add-m
 add-m c = search needs
 
-last-of-month-requires : tie.Need-last-of-month-requires
-last-of-month-requires c κs = search needs
+last-in-requires : tie.Need-last-in-requires
+last-in-requires c κs = search needs
 
 mul-first : tie.Need-mul-first
 mul-first c = search needs
@@ -27,19 +27,19 @@ add-result-2 : tie.Need-add-result-2
 add-result-2 c = search needs
 
 returns : tie.Need-returns
-returns c = sym (dayOfMonthCount-day _ _ (rw (← c .before .last-of-month .ensures) (c .if1 .taken)))
+returns c = sym (dayOfMonthCount-day _ _ (rw (← c .before .last-in .ensures) (c .if1 .taken)))
 
 returns-2 : tie.Need-returns-2
 returns-2 c =
-    rw (c .before .last-of-month .ensures)
-    (sym (dayOfMonthCount-last _ _ (rw (← c .before .last-of-month .ensures) (omega arith))))
+    rw (c .before .last-in .ensures)
+    (sym (dayOfMonthCount-last _ _ (rw (← c .before .last-in .ensures) (omega arith))))
 
 pub day-of-month-spec : {M : Type 1} → statement M
 day-of-month-spec =
     tie.close
     (tie.spec
     add-m
-    last-of-month-requires
+    last-in-requires
     mul-first
     mul-first-2
     add-first

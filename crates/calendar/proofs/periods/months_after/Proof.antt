@@ -46,7 +46,7 @@ add-t-2 : tie.Need-add-t-2
 add-t-2 c = omega (arith, tests c .1, parts c)
 
 day-of-month-requires : tie.Need-day-of-month-requires
-day-of-month-requires c κs = (omega arith, valid-day-le (parts (c .before)))
+day-of-month-requires c κs = (omega (arith, parts (c .before)), omega arith, valid-day-le (parts (c .before)))
 
 returns : tie.Need-returns
 returns c =
