@@ -15,7 +15,6 @@ use Rattle.events.specs.declared.limits.Range.{Range}
 use Rattle.events.specs.declared.limits.SecondDate.{SecondDate}
 use Rattle.events.specs.declared.limits.SecondDate.the-variants.{NoSecond, Dated, NotAfter}
 use Rattle.events.specs.declared.limits.Row.{Row}
-use Rattle.events.specs.declared.limits.Cells.{Cells}
 use Rattle.events.specs.declared.limits.RowAnswer.{RowAnswer}
 use Rattle.events.specs.declared.limits.RowAnswer.the-variants.{Found, NoRow}
 use Rattle.events.specs.declared.limits.Checked.{Checked}
@@ -110,15 +109,6 @@ table =
 -- what is read past the last row: a row of the kind 0, which no event has
 abbrev pub noRow : Row
 noRow = row 0 unnamed unnamed unnamed unnamed unnamed unnamed NoSecond
-
--- a row as the code's table has it
-abbrev pub cellsOf : Row → Cells
-cellsOf r = record {
-  kind = r .kind;
-  least = r .codes .low ∷ r .mandate .low ∷ r .a .low ∷ r .b .low ∷ r .c .low ∷ r .amount .low ∷ [];
-  most = r .codes .high ∷ r .mandate .high ∷ r .a .high ∷ r .b .high ∷ r .c .high ∷ r .amount .high ∷ [];
-  second = r .second;
-}
 
 -- the first of the rows that is of a kind and a code
 abbrev pub rowIn : List Row → ℕ → ℕ → RowAnswer

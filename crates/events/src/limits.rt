@@ -3,7 +3,7 @@ ghost use mathlib.Core.Path.{_≡_};
 ghost use mathlib.Core.List.{[], _∷_};
 ghost use Prim.Native.Nat.{_<_};
 ghost use lib.ListN.{length, getD};
-ghost use Rattle.events.specs.Limits.{within, table, noRow, cellsOf, rowIn, rowOf, secondFits, rowFits, fieldsFit, checked};
+ghost use Rattle.events.specs.Limits.{within, table, noRow, rowIn, rowOf, secondFits, rowFits, fieldsFit, checked};
 use crate::Event;
 use common::AMOUNT_LIMIT;
 use common::BANKS;
@@ -59,96 +59,173 @@ const KINDS: Range = Range {
     high: LAST_KIND,
 };
 
-// A row in numbers: the least and the most that code, mandate, a, b, c and amount may be, in this order.
-struct Cells {
-    kind: u64,
-    least: [u64; 6],
-    most: [u64; 6],
-    second: SecondDate,
-}
+// The ranges of the fields. First a field that the kind and code do not name.
+const UNNAMED: Range = Range { low: 0, high: 0 };
 
-const ROWS: usize = 11;
+const CREDITOR: Range = Range {
+    low: 1,
+    high: CREDITORS,
+};
 
-// The table of specs/Limits: a row for each kind and its codes. A field that is not named goes from 0 to 0.
-const TABLE: [Cells; ROWS] = [
-    // creditor
-    Cells {
-        kind: 1,
-        least: [0, 0, 1, 1, 0, 0],
-        most: [0, 0, CREDITORS, BANKS, 0, 0],
-        second: SecondDate::NoSecond,
-    },
-    // mandate
-    Cells {
-        kind: 2,
-        least: [0, 1, 1, 1, 1, 0],
-        most: [1, NUMBER_LIMIT, CREDITORS, DEBTORS, BANKS, 0],
-        second: SecondDate::NotAfter,
-    },
-    // amend: a new debtor bank
-    Cells {
-        kind: 3,
-        least: [0, 1, 0, 0, 1, 0],
-        most: [0, NUMBER_LIMIT, 0, 0, BANKS, 0],
-        second: SecondDate::NoSecond,
-    },
-    // amend: a new creditor
-    Cells {
-        kind: 3,
-        least: [1, 1, 1, 0, 0, 0],
-        most: [1, NUMBER_LIMIT, CREDITORS, 0, 0, 0],
-        second: SecondDate::NoSecond,
-    },
-    // cancel
-    Cells {
-        kind: 4,
-        least: [0, 1, 0, 0, 0, 0],
-        most: [0, NUMBER_LIMIT, 0, 0, 0, 0],
-        second: SecondDate::NoSecond,
-    },
-    // collect
-    Cells {
-        kind: 5,
-        least: [0, 1, 1, 0, 0, 1],
-        most: [3, NUMBER_LIMIT, NUMBER_LIMIT, 0, 0, AMOUNT_LIMIT],
-        second: SecondDate::Dated,
-    },
-    // settle
-    Cells {
-        kind: 6,
-        least: [0, 0, 1, 0, 0, 0],
-        most: [0, 0, NUMBER_LIMIT, 0, 0, 0],
-        second: SecondDate::NoSecond,
-    },
-    // reject
-    Cells {
-        kind: 7,
-        least: [0, 0, 1, 0, 0, 0],
-        most: [0, 0, NUMBER_LIMIT, 0, 0, 0],
-        second: SecondDate::NoSecond,
-    },
-    // return
-    Cells {
-        kind: 8,
-        least: [0, 0, 1, 0, 0, 0],
-        most: [0, 0, NUMBER_LIMIT, 0, 0, 0],
-        second: SecondDate::NoSecond,
-    },
-    // refund
-    Cells {
-        kind: 9,
-        least: [0, 0, 1, 0, 0, 0],
-        most: [1, 0, NUMBER_LIMIT, RATE_LIMIT, 0, 0],
-        second: SecondDate::NoSecond,
-    },
-    // reversal
-    Cells {
-        kind: 10,
-        least: [0, 0, 1, 0, 0, 0],
-        most: [0, 0, NUMBER_LIMIT, 0, 0, 0],
-        second: SecondDate::NoSecond,
-    },
-];
+const DEBTOR: Range = Range {
+    low: 1,
+    high: DEBTORS,
+};
+
+const BANK: Range = Range {
+    low: 1,
+    high: BANKS,
+};
+
+// A mandate or a collection.
+const NUMBER: Range = Range {
+    low: 1,
+    high: NUMBER_LIMIT,
+};
+
+const CENTS: Range = Range {
+    low: 1,
+    high: AMOUNT_LIMIT,
+};
+
+const RATE: Range = Range {
+    low: 0,
+    high: RATE_LIMIT,
+};
+
+const MANDATE_CODES: Range = Range { low: 0, high: 1 };
+
+const SEQUENCE_CODES: Range = Range { low: 0, high: 3 };
+
+const REFUND_CODES: Range = Range { low: 0, high: 1 };
+
+const ONLY_0: Range = Range { low: 0, high: 0 };
+
+const ONLY_1: Range = Range { low: 1, high: 1 };
+
+// The rows of the table of specs/Limits: one for each kind and its codes.
+const CREDITOR_ROW: Row = Row {
+    kind: 1,
+    codes: UNNAMED,
+    mandate: UNNAMED,
+    a: CREDITOR,
+    b: BANK,
+    c: UNNAMED,
+    amount: UNNAMED,
+    second: SecondDate::NoSecond,
+};
+
+const MANDATE_ROW: Row = Row {
+    kind: 2,
+    codes: MANDATE_CODES,
+    mandate: NUMBER,
+    a: CREDITOR,
+    b: DEBTOR,
+    c: BANK,
+    amount: UNNAMED,
+    second: SecondDate::NotAfter,
+};
+
+// A new debtor bank.
+const AMEND_BANK_ROW: Row = Row {
+    kind: 3,
+    codes: ONLY_0,
+    mandate: NUMBER,
+    a: UNNAMED,
+    b: UNNAMED,
+    c: BANK,
+    amount: UNNAMED,
+    second: SecondDate::NoSecond,
+};
+
+// A new creditor.
+const AMEND_CREDITOR_ROW: Row = Row {
+    kind: 3,
+    codes: ONLY_1,
+    mandate: NUMBER,
+    a: CREDITOR,
+    b: UNNAMED,
+    c: UNNAMED,
+    amount: UNNAMED,
+    second: SecondDate::NoSecond,
+};
+
+const CANCEL_ROW: Row = Row {
+    kind: 4,
+    codes: UNNAMED,
+    mandate: NUMBER,
+    a: UNNAMED,
+    b: UNNAMED,
+    c: UNNAMED,
+    amount: UNNAMED,
+    second: SecondDate::NoSecond,
+};
+
+const COLLECT_ROW: Row = Row {
+    kind: 5,
+    codes: SEQUENCE_CODES,
+    mandate: NUMBER,
+    a: NUMBER,
+    b: UNNAMED,
+    c: UNNAMED,
+    amount: CENTS,
+    second: SecondDate::Dated,
+};
+
+const SETTLE_ROW: Row = Row {
+    kind: 6,
+    codes: UNNAMED,
+    mandate: UNNAMED,
+    a: NUMBER,
+    b: UNNAMED,
+    c: UNNAMED,
+    amount: UNNAMED,
+    second: SecondDate::NoSecond,
+};
+
+const REJECT_ROW: Row = Row {
+    kind: 7,
+    codes: UNNAMED,
+    mandate: UNNAMED,
+    a: NUMBER,
+    b: UNNAMED,
+    c: UNNAMED,
+    amount: UNNAMED,
+    second: SecondDate::NoSecond,
+};
+
+const RETURN_ROW: Row = Row {
+    kind: 8,
+    codes: UNNAMED,
+    mandate: UNNAMED,
+    a: NUMBER,
+    b: UNNAMED,
+    c: UNNAMED,
+    amount: UNNAMED,
+    second: SecondDate::NoSecond,
+};
+
+const REFUND_ROW: Row = Row {
+    kind: 9,
+    codes: REFUND_CODES,
+    mandate: UNNAMED,
+    a: NUMBER,
+    b: RATE,
+    c: UNNAMED,
+    amount: UNNAMED,
+    second: SecondDate::NoSecond,
+};
+
+const REVERSAL_ROW: Row = Row {
+    kind: 10,
+    codes: UNNAMED,
+    mandate: UNNAMED,
+    a: NUMBER,
+    b: UNNAMED,
+    c: UNNAMED,
+    amount: UNNAMED,
+    second: SecondDate::NoSecond,
+};
 
 // Whether x lies in the range.
 fn within(r: Range, x: u64) -> bool
@@ -157,63 +234,23 @@ fn within(r: Range, x: u64) -> bool
     (r.low <= x) & (x <= r.high)
 }
 
-// Row i of the table in numbers. Each place is a constant: with a computed one a run would copy the whole table.
-fn cells_at(i: usize) -> Cells
-    requires { ⌜ i < length table ⌝ }
-    ensures { λ r. ⌜ r ≡ cellsOf (getD table i noRow) ⌝ }
-{
-    let rows = TABLE;
-    match i {
-        0 => rows[0],
-        1 => rows[1],
-        2 => rows[2],
-        3 => rows[3],
-        4 => rows[4],
-        5 => rows[5],
-        6 => rows[6],
-        7 => rows[7],
-        8 => rows[8],
-        9 => rows[9],
-        _ => rows[10],
-    }
-}
-
 // Row i of the table.
 fn row_at(i: usize) -> Row
     requires { ⌜ i < length table ⌝ }
     ensures { λ r. ⌜ r ≡ getD table i noRow ⌝ }
 {
-    let cells = cells_at(i);
-    let l = cells.least;
-    let m = cells.most;
-    let second = cells.second;
-    Row {
-        kind: cells.kind,
-        codes: Range {
-            low: l[0],
-            high: m[0],
-        },
-        mandate: Range {
-            low: l[1],
-            high: m[1],
-        },
-        a: Range {
-            low: l[2],
-            high: m[2],
-        },
-        b: Range {
-            low: l[3],
-            high: m[3],
-        },
-        c: Range {
-            low: l[4],
-            high: m[4],
-        },
-        amount: Range {
-            low: l[5],
-            high: m[5],
-        },
-        second,
+    match i {
+        0 => CREDITOR_ROW,
+        1 => MANDATE_ROW,
+        2 => AMEND_BANK_ROW,
+        3 => AMEND_CREDITOR_ROW,
+        4 => CANCEL_ROW,
+        5 => COLLECT_ROW,
+        6 => SETTLE_ROW,
+        7 => REJECT_ROW,
+        8 => RETURN_ROW,
+        9 => REFUND_ROW,
+        _ => REVERSAL_ROW,
     }
 }
 

@@ -25,7 +25,7 @@ use Rattle.events.specs.declared.limits.RowAnswer.{RowAnswer}
 use Rattle.events.specs.declared.limits.RowAnswer.the-variants.{Found, NoRow}
 use Rattle.events.specs.declared.limits.Checked.{Checked}
 use Rattle.events.specs.declared.limits.Checked.the-variants.{Within, Refused}
-use Rattle.events.specs.Limits.{within, table, noRow, row, cellsOf, rowIn, rowOf, secondFits, rowFits, answerFits, fieldsFit, checked, kinds, unnamed, creditor, debtor, bank, number, cents, rate, mandateCodes, sequenceCodes, refundCodes, lastKind, only}
+use Rattle.events.specs.Limits.{within, table, noRow, row, rowIn, rowOf, secondFits, rowFits, answerFits, fieldsFit, checked, kinds, unnamed, creditor, debtor, bank, number, cents, rate, mandateCodes, sequenceCodes, refundCodes, lastKind, only}
 
 -- ---- ranges
 
@@ -68,9 +68,9 @@ last-case k n h f = let l = none-below-le k n f in omega arith
 
 -- ---- the table
 
--- the numbers of row k are those of row i, which it is
-pub cells-at : (i k : ℕ) → i ≡ k → cellsOf (getD table k noRow) ≡ cellsOf (getD table i noRow)
-cells-at i k e = ap (λ (j : ℕ). cellsOf (getD table j noRow)) (sym e)
+-- row k is row i, if k is i
+pub row-at : (i k : ℕ) → i ≡ k → getD table k noRow ≡ getD table i noRow
+row-at i k e = ap (λ (j : ℕ). getD table j noRow) (sym e)
 
 -- whether a row is of a kind and a code
 abbrev pub isOf : ℕ → ℕ → Row → Bool

@@ -6,13 +6,13 @@ use mathlib.Core.Bool.{Bool, true, false, cond, _&&_}
 use mathlib.Core.List.{List, [], _∷_, _++_, append-assoc, append-nil}
 use mathlib.Core.Logic.{_⊎_, ⊎-elim}
 use Prim.Native.Nat.{ℕ, zero, suc, _+_, _-_, _*_, _/_, _^_, _≤_, _<_}
-use native.Mathlib.Nat.{pow-succ', one-le-pow, eq-zero-or-pos, eq-or-lt-of-le, add-zero, lt-of-lt-of-le, pow-le-pow-right}
+use native.Mathlib.Nat.{pow-succ', one-le-pow, eq-zero-or-pos, eq-or-lt-of-le, add-zero}
 use native.Mathlib.Numerals.{add-one}
 use native.Mathlib.Omega.{arith}
 use lib.Dec.{leb, ltb, eqb, lit<}
 use lib.ListN.{length, take, drop, getD, set, length-append, length-drop, length-set, take-append-drop, drop-of-length-le}
 use lib.Seq.{drop-cons, take-at, drop-at, set-at, take-set-le, lt-length-set, getD-set-same, drop-set-lt, drop-drop, take-add, length-take-le}
-use borrow.Author.Tests.{leb-true, le-leb, lt-leb, ltb-true, ltb-false, lt-ltb, le-ltb, eqb-true, eqb-false, eq-eqb, ne-eqb}
+use borrow.Author.Tests.{leb-true, le-leb, lt-leb, ltb-true, lt-ltb, eqb-true, eqb-false, eq-eqb, ne-eqb}
 use Rattle.common.proofs.Tests.{never, and-halves, and-true, true-or-false, false-unless}
 use Rattle.calendar.specs.Gregorian.{lastDate}
 use Rattle.calendar.proofs.Laws.Gregorian.{range-facts}
@@ -204,7 +204,7 @@ unfolding readField padded
 readField-blanks zero l = refl
 readField-blanks (suc w) l = rw (padded-wider w 0 (one-le-pow w 10 (lit< tt))) (readField-blanks w l)
 
-readField-digit : (d : ℕ) → isDigit d ≡ true → readField (d ∷ []) ≡ Value (d - zeroDigit)
+pub readField-digit : (d : ℕ) → isDigit d ≡ true → readField (d ∷ []) ≡ Value (d - zeroDigit)
 unfolding readField readNumber readDigits
 readField-digit d g =
     let f = digit-facts d g in
@@ -298,6 +298,10 @@ readField-reads (b ∷ bs) v e =
 -- writing what was read of a field gives its bytes
 pub fieldBytes-readField : (l : List ℕ) (v : ℕ) → readField l ≡ Value v → fieldBytes (length l) v ≡ l
 fieldBytes-readField l v e = readField-reads l v e .bytes
+
+-- a field has no more digits than columns
+pub readField-narrow : (l : List ℕ) (v : ℕ) → readField l ≡ Value v → v < 10 ^ length l
+readField-narrow l v e = readField-reads l v e .narrow
 
 -- ---- fields one after the other
 
@@ -476,67 +480,6 @@ cell-within l vs i h k = omega (arith, length-stored l 0 vs)
 -- nine cells hold the nine fields that were stored
 pub cells-stored : (e : Event) (l : List ℕ) → length l ≡ length widths → stored l 0 (fieldsOf e) ≡ fieldsOf e
 cells-stored e l h = ap (λ (m : List ℕ). stored m 0 (fieldsOf e)) (sym (fieldsOf-eventOf l h))
-
--- ---- reading from a place i of a field on
-
-module _ (l : List ℕ) (i : ℕ) where
-  pub readField-blank : i < length l → getD l i 0 ≡ blank → readField (drop i l) ≡ readField (drop (i + 1) l)
-  unfolding readField
-  readField-blank h e = rw (drop-cons l i 0 h, eq-eqb (getD l i 0) blank e, add-one)
-
-  pub readField-number : i < length l → (getD l i 0 ≡ blank → ⊥) → readField (drop i l) ≡ readNumber (drop i l)
-  unfolding readField
-  readField-number h n = rw (drop-cons l i 0 h, ne-eqb (getD l i 0) blank n)
-
-  pub readField-end : length l ≤ i → readField (drop i l) ≡ readNumber (drop i l)
-  unfolding readField readNumber
-  readField-end h = rw (drop-of-length-le l {i = i} h)
-
-  pub readNumber-end : length l ≤ i → readNumber (drop i l) ≡ NoValue
-  unfolding readNumber
-  readNumber-end h = rw (drop-of-length-le l {i = i} h)
-
-  more-behind : i < length l → ltb 0 (length (drop (suc i) l)) ≡ ltb (i + 1) (length l)
-  more-behind h =
-      let n = length-drop (suc i) l in
-      ⊎-elim
-      (λ t. lt-ltb 0 (length (drop (suc i) l)) (omega (arith, n, ltb-true (i + 1) (length l) t)) ∙ sym t)
-      (λ t. le-ltb 0 (length (drop (suc i) l)) (omega (arith, n, ltb-false (i + 1) (length l) t)) ∙ sym t)
-      (true-or-false (ltb (i + 1) (length l)))
-
-  pub readNumber-lead : i < length l
-      → eqb (getD l i 0) zeroDigit && ltb (i + 1) (length l) ≡ true
-      → readNumber (drop i l) ≡ NoValue
-  unfolding readNumber
-  readNumber-lead h t = rw (drop-cons l i 0 h, more-behind h, t)
-
-  pub readNumber-digits : i < length l
-      → eqb (getD l i 0) zeroDigit && ltb (i + 1) (length l) ≡ false
-      → readNumber (drop i l) ≡ readDigits 0 (drop i l)
-  unfolding readNumber
-  readNumber-digits h t = rw (drop-cons l i 0 h, more-behind h, t)
-
-  pub readDigits-digit : (v : ℕ)
-      → i < length l
-      → isDigit (getD l i 0) ≡ true
-      → readDigits v (drop i l) ≡ readDigits (v * 10 + (getD l i 0 - zeroDigit)) (drop (i + 1) l)
-  unfolding readDigits
-  readDigits-digit v h t = rw (drop-cons l i 0 h, t, add-one)
-
-  pub readDigits-other : (v : ℕ) → i < length l → isDigit (getD l i 0) ≡ false → readDigits v (drop i l) ≡ NoValue
-  unfolding readDigits
-  readDigits-other v h t = rw (drop-cons l i 0 h, t)
-
-  pub readDigits-end : (v : ℕ) → length l ≤ i → readDigits v (drop i l) ≡ Value v
-  unfolding readDigits
-  readDigits-end v h = rw (drop-of-length-le l {i = i} h)
-
--- a number of i digits, i below the widest column, has room for one more
-pub narrow-room : (v i : ℕ) → v < 10 ^ i → i < 12 → v < 100000000000
-narrow-room v i h k = lt-of-lt-of-le h (pow-le-pow-right {n = 10} (lit< tt) {i = i} {j = 11} (omega arith))
-
-pub narrow-next : (v d i : ℕ) → v < 10 ^ i → d ≤ 9 → v * 10 + d < 10 ^ (i + 1)
-narrow-next v d i h k = rw (add-one, ten i) (omega arith)
 
 -- ---- reading a line field by field
 

@@ -1,82 +1,66 @@
--- `row_at` makes a row of its numbers.
+-- `row_at` gives the rows of specs/Limits.
 -- Assumes nothing.
-use mathlib.Core.Path.{ap}
-use lib.ListN.{getD}
-use Rattle.events.specs.declared.limits.Cells.{Cells}
-use Rattle.events.specs.declared.limits.Row.{Row}
-use Rattle.events.specs.Limits.{fromTo, row}
-use borrow.Author.Needs.{needs}
+use Rattle.events.specs.Limits.{table}
+use Rattle.events.proofs.Laws.Limits.{row-at, last-case}
 use Rattle.events.proofs.limits.row_at.Statement.{statement}
 use Rattle.events.proofs.limits.row_at.Tie as tie
 
-abbrev made : Cells → Row
-made l =
-    row (l .kind)
-    (fromTo (getD (l .least) 0 0) (getD (l .most) 0 0))
-    (fromTo (getD (l .least) 1 0) (getD (l .most) 1 0))
-    (fromTo (getD (l .least) 2 0) (getD (l .most) 2 0))
-    (fromTo (getD (l .least) 3 0) (getD (l .most) 3 0))
-    (fromTo (getD (l .least) 4 0) (getD (l .most) 4 0))
-    (fromTo (getD (l .least) 5 0) (getD (l .most) 5 0))
-    (l .second)
-
-cells-at-requires : tie.Need-cells-at-requires
-cells-at-requires c κs = search needs
-
-array-read-t8 : tie.Need-array-read-t8
-array-read-t8 c = search needs
-
-array-read-t11 : tie.Need-array-read-t11
-array-read-t11 c = search needs
-
-array-read-t15 : tie.Need-array-read-t15
-array-read-t15 c = search needs
-
-array-read-t18 : tie.Need-array-read-t18
-array-read-t18 c = search needs
-
-array-read-t22 : tie.Need-array-read-t22
-array-read-t22 c = search needs
-
-array-read-t25 : tie.Need-array-read-t25
-array-read-t25 c = search needs
-
-array-read-t29 : tie.Need-array-read-t29
-array-read-t29 c = search needs
-
-array-read-t32 : tie.Need-array-read-t32
-array-read-t32 c = search needs
-
-array-read-t36 : tie.Need-array-read-t36
-array-read-t36 c = search needs
-
-array-read-t39 : tie.Need-array-read-t39
-array-read-t39 c = search needs
-
-array-read-t43 : tie.Need-array-read-t43
-array-read-t43 c = search needs
-
-array-read-t46 : tie.Need-array-read-t46
-array-read-t46 c = search needs
-
 returns : tie.Need-returns
-returns c = ap made (c .before .before .cells-at .ensures)
+unfolding table
+returns c = row-at _ 0 (c .match .keys1)
+
+returns-2 : tie.Need-returns-2
+unfolding table
+returns-2 c = row-at _ 1 (c .match .keys2)
+
+returns-3 : tie.Need-returns-3
+unfolding table
+returns-3 c = row-at _ 2 (c .match .keys3)
+
+returns-4 : tie.Need-returns-4
+unfolding table
+returns-4 c = row-at _ 3 (c .match .keys4)
+
+returns-5 : tie.Need-returns-5
+unfolding table
+returns-5 c = row-at _ 4 (c .match .keys5)
+
+returns-6 : tie.Need-returns-6
+unfolding table
+returns-6 c = row-at _ 5 (c .match .keys6)
+
+returns-7 : tie.Need-returns-7
+unfolding table
+returns-7 c = row-at _ 6 (c .match .keys7)
+
+returns-8 : tie.Need-returns-8
+unfolding table
+returns-8 c = row-at _ 7 (c .match .keys8)
+
+returns-9 : tie.Need-returns-9
+unfolding table
+returns-9 c = row-at _ 8 (c .match .keys9)
+
+returns-10 : tie.Need-returns-10
+unfolding table
+returns-10 c = row-at _ 9 (c .match .keys10)
+
+returns-11 : tie.Need-returns-11
+unfolding table
+returns-11 c = row-at _ 10 (last-case _ 10 (c .before .pre) (c .match .rest))
 
 pub row-at-spec : {M : Type 1} → statement M
 row-at-spec =
     tie.close
     (tie.spec
-    cells-at-requires
-    array-read-t8
-    array-read-t11
-    array-read-t15
-    array-read-t18
-    array-read-t22
-    array-read-t25
-    array-read-t29
-    array-read-t32
-    array-read-t36
-    array-read-t39
-    array-read-t43
-    array-read-t46
-    returns)
+    returns
+    returns-2
+    returns-3
+    returns-4
+    returns-5
+    returns-6
+    returns-7
+    returns-8
+    returns-9
+    returns-10
+    returns-11)

@@ -1,14 +1,11 @@
--- `fields` reads field by field. At each place: the line, the values that were read of it, and that they and what is
--- still to be read are all that is read of it. Then it goes by the answer of `check`, and stores the values cell after cell.
--- Assumes nothing.
-use Rattle.events.proofs.Laws.Line.{after, after-value, after-none, stored, length-stored, cell-within, cells-stored, cells-answer}
-use Rattle.events.specs.Line.{widths, eventOf, readFields, answerOf, taken}
+-- `fields` reads field by field. At each place: the line, the values that were read of it, and that they and what is still to be read
+-- are all that is read of it. `later_fields` goes on behind the first four. Assumes nothing.
+use Rattle.events.proofs.Laws.Line.{after, after-value, after-none, cells-answer}
+use Rattle.events.specs.Line.{widths, readFields, taken}
 use Rattle.events.specs.declared.line.LineAnswer.the-variants as lines
 use Rattle.refusals.specs.declared.Refusal.the-variants.{BadLine}
-use lib.ListN.{length, take, drop, length-set}
-use lib.Dec.{lit≤, lit<}
-use native.Mathlib.Omega.{arith}
-use Prim.Native.Nat.{ℕ, _<_}
+use lib.ListN.{drop}
+use Prim.Native.Nat.{ℕ}
 use mathlib.Core.List.{List, [], _∷_, _++_}
 use mathlib.Core.Path.{_≡_, sym, ap, _∙_}
 use borrow.Author.Needs.{needs}
@@ -65,108 +62,6 @@ after3 c =
     (c .before .mandate .given .0 .0)
     (sym (c .before .before .before .field3 .ensures) ∙ c .before .mandate .given .1)
 
-abbrev start4 : tie.After-known-told4 → tie.Start
-start4 c = start3 (c .before .before .before .before)
-
-abbrev line4 : tie.After-known-told4 → List ℕ
-line4 c = start4 c .args .line .now
-
-abbrev values4 : tie.After-known-told4 → List ℕ
-values4 c = values3 (c .before .before .before .before) ++ (c .before .a .given .0 .0 ∷ [])
-
-after4 : (c : tie.After-known-told4)
-    → readFields widths 0 (line4 c) ≡ after (values4 c) (readFields (drop 4 widths) 31 (line4 c))
-after4 c =
-    after3 (c .before .before .before .before)
-    ∙ after-value (values3 (c .before .before .before .before)) (drop 4 widths) (line4 c) 21 10
-    (c .before .a .given .0 .0)
-    (sym (c .before .before .before .field4 .ensures) ∙ c .before .a .given .1)
-
-abbrev start5 : tie.After-known-told5 → tie.Start
-start5 c = start4 (c .before .before .before .before)
-
-abbrev line5 : tie.After-known-told5 → List ℕ
-line5 c = start5 c .args .line .now
-
-abbrev values5 : tie.After-known-told5 → List ℕ
-values5 c = values4 (c .before .before .before .before) ++ (c .before .b .given .0 .0 ∷ [])
-
-after5 : (c : tie.After-known-told5)
-    → readFields widths 0 (line5 c) ≡ after (values5 c) (readFields (drop 5 widths) 41 (line5 c))
-after5 c =
-    after4 (c .before .before .before .before)
-    ∙ after-value (values4 (c .before .before .before .before)) (drop 5 widths) (line5 c) 31 10
-    (c .before .b .given .0 .0)
-    (sym (c .before .before .before .field5 .ensures) ∙ c .before .b .given .1)
-
-abbrev start6 : tie.After-known-told6 → tie.Start
-start6 c = start5 (c .before .before .before .before)
-
-abbrev line6 : tie.After-known-told6 → List ℕ
-line6 c = start6 c .args .line .now
-
-abbrev values6 : tie.After-known-told6 → List ℕ
-values6 c = values5 (c .before .before .before .before) ++ (c .before .c .given .0 .0 ∷ [])
-
-after6 : (c : tie.After-known-told6)
-    → readFields widths 0 (line6 c) ≡ after (values6 c) (readFields (drop 6 widths) 51 (line6 c))
-after6 c =
-    after5 (c .before .before .before .before)
-    ∙ after-value (values5 (c .before .before .before .before)) (drop 6 widths) (line6 c) 41 10
-    (c .before .c .given .0 .0)
-    (sym (c .before .before .before .field6 .ensures) ∙ c .before .c .given .1)
-
-abbrev start7 : tie.After-known-told7 → tie.Start
-start7 c = start6 (c .before .before .before .before)
-
-abbrev line7 : tie.After-known-told7 → List ℕ
-line7 c = start7 c .args .line .now
-
-abbrev values7 : tie.After-known-told7 → List ℕ
-values7 c = values6 (c .before .before .before .before) ++ (c .before .amount .given .0 .0 ∷ [])
-
-after7 : (c : tie.After-known-told7)
-    → readFields widths 0 (line7 c) ≡ after (values7 c) (readFields (drop 7 widths) 63 (line7 c))
-after7 c =
-    after6 (c .before .before .before .before)
-    ∙ after-value (values6 (c .before .before .before .before)) (drop 7 widths) (line7 c) 51 12
-    (c .before .amount .given .0 .0)
-    (sym (c .before .before .before .field7 .ensures) ∙ c .before .amount .given .1)
-
-abbrev start8 : tie.After-known-told8 → tie.Start
-start8 c = start7 (c .before .before .before .before)
-
-abbrev line8 : tie.After-known-told8 → List ℕ
-line8 c = start8 c .args .line .now
-
-abbrev values8 : tie.After-known-told8 → List ℕ
-values8 c = values7 (c .before .before .before .before) ++ (c .before .second .given .0 .0 ∷ [])
-
-after8 : (c : tie.After-known-told8)
-    → readFields widths 0 (line8 c) ≡ after (values8 c) (readFields (drop 8 widths) 72 (line8 c))
-after8 c =
-    after7 (c .before .before .before .before)
-    ∙ after-value (values7 (c .before .before .before .before)) (drop 8 widths) (line8 c) 63 9
-    (c .before .second .given .0 .0)
-    (sym (c .before .before .before .field8 .ensures) ∙ c .before .second .given .1)
-
-abbrev start9 : tie.After-known-told9 → tie.Start
-start9 c = start8 (c .before .before .before .before)
-
-abbrev line9 : tie.After-known-told9 → List ℕ
-line9 c = start9 c .args .line .now
-
-abbrev values9 : tie.After-known-told9 → List ℕ
-values9 c = values8 (c .before .before .before .before) ++ (c .before .code .given .0 .0 ∷ [])
-
-after9 : (c : tie.After-known-told9)
-    → readFields widths 0 (line9 c) ≡ after (values9 c) (readFields (drop 9 widths) 74 (line9 c))
-after9 c =
-    after8 (c .before .before .before .before)
-    ∙ after-value (values8 (c .before .before .before .before)) (drop 9 widths) (line9 c) 72 2
-    (c .before .code .given .0 .0)
-    (sym (c .before .before .before .field9 .ensures) ∙ c .before .code .given .1)
-
 field-requires : tie.Need-field-requires
 field-requires c κs = search needs
 
@@ -194,10 +89,11 @@ enum-told-2 c = search needs
 
 returns-2 : tie.Need-returns-2
 returns-2 c =
-    cells-answer (start1 (c .before .before .before) .args .cells .now) _ (lines.Refused BadLine)
+    let k = c .before .before .before in
+    cells-answer (start1 k .args .cells .now) _ (lines.Refused BadLine)
     (ap taken
-    (after1 (c .before .before .before)
-    ∙ after-none (values1 (c .before .before .before)) (drop 2 widths) (line1 (c .before .before .before)) 2 9
+    (after1 k
+    ∙ after-none (values1 k) (drop 2 widths) (line1 k) 2 9
     (sym (c .before .before .field2 .ensures) ∙ c .enum-told2 .given .1)))
 
 field-requires-3 : tie.Need-field-requires-3
@@ -211,10 +107,11 @@ enum-told-3 c = search needs
 
 returns-3 : tie.Need-returns-3
 returns-3 c =
-    cells-answer (start2 (c .before .before .before) .args .cells .now) _ (lines.Refused BadLine)
+    let k = c .before .before .before in
+    cells-answer (start2 k .args .cells .now) _ (lines.Refused BadLine)
     (ap taken
-    (after2 (c .before .before .before)
-    ∙ after-none (values2 (c .before .before .before)) (drop 3 widths) (line2 (c .before .before .before)) 11 10
+    (after2 k
+    ∙ after-none (values2 k) (drop 3 widths) (line2 k) 11 10
     (sym (c .before .before .field3 .ensures) ∙ c .enum-told3 .given .1)))
 
 field-requires-4 : tie.Need-field-requires-4
@@ -228,170 +125,30 @@ enum-told-4 c = search needs
 
 returns-4 : tie.Need-returns-4
 returns-4 c =
-    cells-answer (start3 (c .before .before .before) .args .cells .now) _ (lines.Refused BadLine)
+    let k = c .before .before .before in
+    cells-answer (start3 k .args .cells .now) _ (lines.Refused BadLine)
     (ap taken
-    (after3 (c .before .before .before)
-    ∙ after-none (values3 (c .before .before .before)) (drop 4 widths) (line3 (c .before .before .before)) 21 10
+    (after3 k
+    ∙ after-none (values3 k) (drop 4 widths) (line3 k) 21 10
     (sym (c .before .before .field4 .ensures) ∙ c .enum-told4 .given .1)))
 
-field-requires-5 : tie.Need-field-requires-5
-field-requires-5 c κs = search needs
-
-enum-known-b : tie.Need-enum-known-b
-enum-known-b c = search needs
-
-enum-told-5 : tie.Need-enum-told-5
-enum-told-5 c = search needs
-
-returns-5 : tie.Need-returns-5
-returns-5 c =
-    cells-answer (start4 (c .before .before .before) .args .cells .now) _ (lines.Refused BadLine)
-    (ap taken
-    (after4 (c .before .before .before)
-    ∙ after-none (values4 (c .before .before .before)) (drop 5 widths) (line4 (c .before .before .before)) 31 10
-    (sym (c .before .before .field5 .ensures) ∙ c .enum-told5 .given .1)))
-
-field-requires-6 : tie.Need-field-requires-6
-field-requires-6 c κs = search needs
-
-enum-known-c : tie.Need-enum-known-c
-enum-known-c c = search needs
-
-enum-told-6 : tie.Need-enum-told-6
-enum-told-6 c = search needs
-
-returns-6 : tie.Need-returns-6
-returns-6 c =
-    cells-answer (start5 (c .before .before .before) .args .cells .now) _ (lines.Refused BadLine)
-    (ap taken
-    (after5 (c .before .before .before)
-    ∙ after-none (values5 (c .before .before .before)) (drop 6 widths) (line5 (c .before .before .before)) 41 10
-    (sym (c .before .before .field6 .ensures) ∙ c .enum-told6 .given .1)))
-
-field-requires-7 : tie.Need-field-requires-7
-field-requires-7 c κs = (omega (arith, start6 c .pre .0), lit≤ tt)
-
-enum-known-amount : tie.Need-enum-known-amount
-enum-known-amount c = search needs
-
-enum-told-7 : tie.Need-enum-told-7
-enum-told-7 c = search needs
-
-returns-7 : tie.Need-returns-7
-returns-7 c =
-    cells-answer (start6 (c .before .before .before) .args .cells .now) _ (lines.Refused BadLine)
-    (ap taken
-    (after6 (c .before .before .before)
-    ∙ after-none (values6 (c .before .before .before)) (drop 7 widths) (line6 (c .before .before .before)) 51 12
-    (sym (c .before .before .field7 .ensures) ∙ c .enum-told7 .given .1)))
-
-field-requires-8 : tie.Need-field-requires-8
-field-requires-8 c κs = (omega (arith, start7 c .pre .0), lit≤ tt)
-
-enum-known-second : tie.Need-enum-known-second
-enum-known-second c = search needs
-
-enum-told-8 : tie.Need-enum-told-8
-enum-told-8 c = search needs
-
-returns-8 : tie.Need-returns-8
-returns-8 c =
-    cells-answer (start7 (c .before .before .before) .args .cells .now) _ (lines.Refused BadLine)
-    (ap taken
-    (after7 (c .before .before .before)
-    ∙ after-none (values7 (c .before .before .before)) (drop 8 widths) (line7 (c .before .before .before)) 63 9
-    (sym (c .before .before .field8 .ensures) ∙ c .enum-told8 .given .1)))
-
-field-requires-9 : tie.Need-field-requires-9
-field-requires-9 c κs = (omega (arith, start8 c .pre .0), lit≤ tt)
-
-enum-known-code : tie.Need-enum-known-code
-enum-known-code c = search needs
-
-enum-told-9 : tie.Need-enum-told-9
-enum-told-9 c = search needs
-
-returns-9 : tie.Need-returns-9
-returns-9 c =
-    cells-answer (start8 (c .before .before .before) .args .cells .now) _ (lines.Refused BadLine)
-    (ap taken
-    (after8 (c .before .before .before)
-    ∙ after-none (values8 (c .before .before .before)) (drop 9 widths) (line8 (c .before .before .before)) 72 2
-    (sym (c .before .before .field9 .ensures) ∙ c .enum-told9 .given .1)))
-
--- the values that were read, and the cells as they were
-abbrev values : tie.After-check → List ℕ
-values c = values9 (c .before)
-
-abbrev cells : tie.After-check → List ℕ
-cells c = start9 (c .before) .args .cells .now
-
-nine : (c : tie.After-check) → length (cells c) ≡ length widths
-nine c = start9 (c .before) .pre .1
-
--- the answer of the line is that of its event
-answer : (c : tie.After-check)
-    → taken (readFields widths 0 (line9 (c .before))) ≡ answerOf (eventOf (values c)) (c .check .result)
-answer c = ap taken (after9 (c .before)) ∙ ap (answerOf (eventOf (values c))) (sym (c .check .ensures))
-
--- there is a cell for the next value
-cell : (c : tie.After-check) (n : ℕ) → n < length widths → n < length (stored (cells c) 0 (take n (values c)))
-cell c n h = cell-within (cells c) (take n (values c)) n (nine c) h
-
-check-requires : tie.Need-check-requires
-check-requires c κs = search needs
-
-enum-known-r : tie.Need-enum-known-r
-enum-known-r c = search needs
-
-enum-told-10 : tie.Need-enum-told-10
-enum-told-10 c = search needs
-
-slice-write-cells : tie.Need-slice-write-cells
-slice-write-cells c = cell (c .before .before) 0 (lit< tt)
-
-slice-write-cells-2 : tie.Need-slice-write-cells-2
-slice-write-cells-2 c = cell (c .before .before) 1 (lit< tt)
-
-slice-write-cells-3 : tie.Need-slice-write-cells-3
-slice-write-cells-3 c = cell (c .before .before) 2 (lit< tt)
-
-slice-write-cells-4 : tie.Need-slice-write-cells-4
-slice-write-cells-4 c = cell (c .before .before) 3 (lit< tt)
-
-slice-write-cells-5 : tie.Need-slice-write-cells-5
-slice-write-cells-5 c = cell (c .before .before) 4 (lit< tt)
-
-slice-write-cells-6 : tie.Need-slice-write-cells-6
-slice-write-cells-6 c = cell (c .before .before) 5 (lit< tt)
-
-slice-write-cells-7 : tie.Need-slice-write-cells-7
-slice-write-cells-7 c = cell (c .before .before) 6 (lit< tt)
-
-slice-write-cells-8 : tie.Need-slice-write-cells-8
-slice-write-cells-8 c = cell (c .before .before) 7 (lit< tt)
-
-slice-write-cells-9 : tie.Need-slice-write-cells-9
-slice-write-cells-9 c = cell (c .before .before) 8 (lit< tt)
-
-returns-10 : tie.Need-returns-10
-returns-10 c =
-    let k = c .before .before .before in
-    cells-answer (cells k) _ (lines.Refused (c .before .r .given .0 .0))
-    (answer k ∙ ap (answerOf (eventOf (values k))) (c .before .r .given .1))
+later-fields-requires : tie.Need-later-fields-requires
+later-fields-requires c κs =
+    let s = c .before .before .before .before .before .before .before .before .before .before .before .before .before .before .before .before .before .before .before in (
+      (s .pre .0, s .pre .1),
+      (
+        sym (c .before .before .before .before .before .before .before .before .before .before .before .before .before .before .before .before .field .ensures) ∙ c .before .before .before .before .before .before .before .before .before .before .before .before .before .before .kind .given .1,
+        sym (c .before .before .before .before .before .before .before .before .before .before .before .before .field2 .ensures) ∙ c .before .before .before .before .before .before .before .before .before .before .date .given .1,
+        sym (c .before .before .before .before .before .before .before .before .field3 .ensures) ∙ c .before .before .before .before .before .before .mandate .given .1,
+        sym (c .before .before .before .before .field4 .ensures) ∙ c .before .before .a .given .1,
+      ),
+    )
 
 same-length : tie.Need-same-length
-same-length c =
-    let k = c .before .before in
-    length-set (stored (cells k) 0 (take 8 (values k))) 8 _ ∙ length-stored (cells k) 0 (take 8 (values k))
+same-length c = search needs
 
-returns-11 : tie.Need-returns-11
-returns-11 c =
-    let k = c .before .before in
-    let p =
-    cells-answer (cells k) _ (lines.Taken (eventOf (values k)))
-    (answer k ∙ ap (answerOf (eventOf (values k))) (c .enum-told10 .given .1)) in
-    (p .0, cells-stored (eventOf (values k)) (cells k) (nine k) ∙ p .1)
+returns-5 : tie.Need-returns-5
+returns-5 c = c .before .before .later-fields .ensures
 
 pub fields-spec : {M : Type 1} → statement M
 fields-spec =
@@ -413,38 +170,6 @@ fields-spec =
     enum-known-a
     enum-told-4
     returns-4
-    field-requires-5
-    enum-known-b
-    enum-told-5
-    returns-5
-    field-requires-6
-    enum-known-c
-    enum-told-6
-    returns-6
-    field-requires-7
-    enum-known-amount
-    enum-told-7
-    returns-7
-    field-requires-8
-    enum-known-second
-    enum-told-8
-    returns-8
-    field-requires-9
-    enum-known-code
-    enum-told-9
-    returns-9
-    check-requires
-    enum-known-r
-    enum-told-10
-    slice-write-cells
-    slice-write-cells-2
-    slice-write-cells-3
-    slice-write-cells-4
-    slice-write-cells-5
-    slice-write-cells-6
-    slice-write-cells-7
-    slice-write-cells-8
-    slice-write-cells-9
-    returns-10
+    later-fields-requires
     same-length
-    returns-11)
+    returns-5)

@@ -1,44 +1,88 @@
--- `number` reads what stands behind the blanks.
--- Assumes nothing.
-use Rattle.events.proofs.Laws.Line.{readNumber-lead, readNumber-digits, readNumber-end}
+use Rattle.events.proofs.Laws.Words.{narrower, field-last, field-word}
+use Prim.Native.Nat.{_-_}
+use lib.Dec.{lit≤}
 use mathlib.Core.Path.{sym, _∙_}
+use native.Mathlib.Omega.{arith}
 use borrow.Author.Needs.{needs}
 use Rattle.events.proofs.line.number.Statement.{statement}
 use Rattle.events.proofs.line.number.Tie as tie
 
-blanks-requires : tie.Need-blanks-requires
-blanks-requires c κs = search needs
+sub-n : tie.Need-sub-n
+sub-n c = search needs
 
-shared-slice-read-if2 : tie.Need-shared-slice-read-if2
-shared-slice-read-if2 c = search needs
+head-requires : tie.Need-head-requires
+head-requires c κs = search needs
 
-add-if2 : tie.Need-add-if2
-add-if2 c = search needs
+add-last : tie.Need-add-last
+add-last c = search needs
+
+shared-slice-read-last : tie.Need-shared-slice-read-last
+shared-slice-read-last c = search needs
+
+last-requires : tie.Need-last-requires
+last-requires c κs = search needs
 
 returns : tie.Need-returns
 returns c =
-    sym
-    (c .before .before .before .blanks .ensures .1 ∙ readNumber-lead _ _ (c .before .before .if1 .taken) (c .if2 .taken))
+    let s = c .before .before .before .before .before in
+    c .last .ensures
+    ∙ field-last (s .args .line .now) (s .args .at) (s .args .width - 1) _ (c .before .before .head .ensures .0) (s .args .width) (omega (arith, s .pre .1)) (s .pre .0)
 
-digits-requires : tie.Need-digits-requires
-digits-requires c κs = search needs
+head-requires-2 : tie.Need-head-requires-2
+head-requires-2 c κs = search needs
+
+add-word : tie.Need-add-word
+add-word c = search needs
+
+word-requires : tie.Need-word-requires
+word-requires c κs = search needs
+
+tail-requires : tie.Need-tail-requires
+tail-requires c κs = narrower 1 4 _ (lit≤ tt) (c .before .head2 .ensures .1)
 
 returns-2 : tie.Need-returns-2
 returns-2 c =
-    c .digits .ensures
-    ∙ sym (c .before .before .before .before .blanks .ensures .1 ∙ readNumber-digits _ _ (c .before .before .before .if1 .taken) (c .before .if2 .left))
+    let s = c .before .before .before .before .before .before in
+    c .tail .ensures
+    ∙ field-word (s .args .line .now) (s .args .at) 1 _ (c .before .before .head2 .ensures .0) (s .args .width) _ (sym (c .before .before .before .if2 .taken)) (c .before .word .ensures)
+
+head-requires-3 : tie.Need-head-requires-3
+head-requires-3 c κs = search needs
+
+add-word-2 : tie.Need-add-word-2
+add-word-2 c = search needs
+
+word-requires-2 : tie.Need-word-requires-2
+word-requires-2 c κs = search needs
+
+tail-requires-2 : tie.Need-tail-requires-2
+tail-requires-2 c κs =
+    let s = c .before .before .before .before .before in
+    narrower (s .args .width - 8) 4 _ (omega (arith, s .pre .2)) (c .before .head3 .ensures .1)
 
 returns-3 : tie.Need-returns-3
-returns-3 c = sym (c .before .blanks .ensures .1 ∙ readNumber-end _ _ (c .if1 .left))
+returns-3 c =
+    let s = c .before .before .before .before .before .before in
+    c .tail2 .ensures
+    ∙ field-word (s .args .line .now) (s .args .at) (s .args .width - 8) _ (c .before .before .head3 .ensures .0) (s .args .width) _ (omega (arith, c .before .before .before .before .if1 .left)) (c .before .word2 .ensures)
 
 pub number-spec : {M : Type 1} → statement M
 number-spec =
     tie.close
     (tie.spec
-    blanks-requires
-    shared-slice-read-if2
-    add-if2
+    sub-n
+    head-requires
+    add-last
+    shared-slice-read-last
+    last-requires
     returns
-    digits-requires
+    head-requires-2
+    add-word
+    word-requires
+    tail-requires
     returns-2
+    head-requires-3
+    add-word-2
+    word-requires-2
+    tail-requires-2
     returns-3)
