@@ -12,7 +12,7 @@ TOP = Path(__file__).resolve().parent.parent
 EXAMPLE = (TOP / "crates/ledger/stdin").read_bytes()
 ANSWERS = (TOP / "crates/ledger/stdout").read_bytes()
 LINES = 999_999
-PIECE = 65_536
+PIECE = 262_144
 
 STREAMS = {
     "lines past the limit": b"\n" * (LINES + 10),

@@ -163,9 +163,11 @@ fn finish(
     }
 }
 
-// The lines of the input, and then the positions. The buffer has room for an answer to each byte of the text.
-fn run(
+// The lines of the input, and then the positions, by a text and a buffer for answers.
+fn run_by(
     header: Header,
+    text: &mut [u8],
+    out: &mut [u8],
     mandates: &mut [u64],
     collections: &mut [u64],
     creditors: &mut [u64],
@@ -173,8 +175,6 @@ fn run(
     debtor_positions: &mut [i64],
     bank_positions: &mut [i64],
 ) {
-    let mut text = io::large_buffer();
-    let mut out = [0u8; 655360];
     let start = Progress {
         header: header,
         lines: 0,
@@ -184,8 +184,8 @@ fn run(
     };
     let p = take_input(
         start,
-        &mut text,
-        &mut out,
+        text,
+        out,
         mandates,
         collections,
         creditors,
@@ -198,7 +198,33 @@ fn run(
     }
     finish(
         p,
-        &text,
+        text,
+        out,
+        mandates,
+        collections,
+        creditors,
+        creditor_positions,
+        debtor_positions,
+        bank_positions,
+    );
+}
+
+// Lends the text and the buffer, which has room for an answer to each byte of the text. The text is large, since the memory
+// is tested once for a piece.
+fn run(
+    header: Header,
+    mandates: &mut [u64],
+    collections: &mut [u64],
+    creditors: &mut [u64],
+    creditor_positions: &mut [i64],
+    debtor_positions: &mut [i64],
+    bank_positions: &mut [i64],
+) {
+    let mut text = [0u8; 262144];
+    let mut out = [0u8; 2621440];
+    run_by(
+        header,
+        &mut text,
         &mut out,
         mandates,
         collections,

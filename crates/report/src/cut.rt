@@ -17,6 +17,9 @@ const LINE_END: u8 = 10;
 // The bytes of a sound line before its end.
 const COLUMNS: usize = 74;
 
+// The bytes that are looked at together.
+const STEP: usize = 16;
+
 // Whether no byte ends a line. The loop has no other way out, so that many bytes can be compared at a time.
 fn is_endless(text: &[u8]) -> bool
     ensures { λ r. ⌜ (r ≡ true → Endless (now (text .entry))) ⌝ }
@@ -47,11 +50,29 @@ fn ends_soundly(text: &[u8], from: usize) -> bool
     is_endless(&text[from..end])
 }
 
-// The first end of a line from a place on, byte by byte.
+// A place before which, from a place on, no line ends: some bytes are passed over a turn.
+fn skip(text: &[u8], from: usize) -> usize
+    ensures { λ r. ⌜ endFrom (now (text .entry)) r ≡ endFrom (now (text .entry)) from ⌝ }
+{
+    let mut i = from;
+    while i < text.len() {
+        if text.len() - i < STEP {
+            return i;
+        }
+        let end = i + STEP;
+        if !is_endless(&text[i..end]) {
+            return i;
+        }
+        i = end;
+    }
+    i
+}
+
+// The first end of a line from a place on; at last byte by byte.
 fn scan(text: &[u8], from: usize) -> LineEnd
     ensures { λ r. ⌜ r ≡ endFrom (now (text .entry)) from ⌝ }
 {
-    let mut i = from;
+    let mut i = skip(text, from);
     while i < text.len() {
         if text[i] == LINE_END {
             return LineEnd::At(i);

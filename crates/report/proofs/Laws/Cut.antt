@@ -1,4 +1,4 @@
--- Laws of specs/Cut. To cite: `FirstEnd` with `endFrom-at`, `endFrom-none`, `endFrom-first`, and `endFrom-cases`, from which both follow.
+-- Laws of specs/Cut. To cite: `FirstEnd` with `endFrom-at`, `endFrom-none`, `endFrom-first`, `endFrom-past`, and `endFrom-cases`, from which both follow.
 -- Assumes nothing.
 use mathlib.Core.Path.{_≡_, refl, sym, ap, _∙_}
 use mathlib.Core.Bool.{Bool, true, false, not, _&&_}
@@ -101,6 +101,43 @@ module _ (text : List ℕ) (from : ℕ) where
             ∙ ap (λ (i : ℕ). getD text i 0) m
             ∙ q);
       })
+
+-- bytes that end no line are passed over
+module _ (text : List ℕ) (from k : ℕ) (h : from + k ≤ length text) (none : Endless (take (from + k - from) (drop from text))) where
+  endless-before : (j : ℕ) → from ≤ j → j < from + k → getD text j 0 ≢ lineEnd
+  endless-before j lo hi q =
+      let d = length-drop from text in
+      let m : from + (j - from) ≡ j = omega arith in
+      none (j - from) (omega (arith, length-take-le (from + k - from) (drop from text) (omega arith)))
+      (getD-take (from + k - from) (drop from text) (j - from) 0 (omega arith)
+      ∙ getD-drop from text (j - from) 0
+      ∙ ap (λ (i : ℕ). getD text i 0) m
+      ∙ q)
+
+  -- none from the place behind them on, so none at all
+  none-at-all : ((j : ℕ) → from + k ≤ j → j < length text → getD text j 0 ≢ lineEnd) → (j : ℕ) → from ≤ j → j < length text → getD text j 0 ≢ lineEnd
+  none-at-all f j lo hi =
+      ⊎-elim (λ (e : leb (from + k) j ≡ true). f j (leb-true (from + k) j e) hi)
+      (λ (e : leb (from + k) j ≡ false). endless-before j lo (leb-false (from + k) j e))
+      (true-or-false (leb (from + k) j))
+
+  pub endFrom-past : endFrom text (from + k) ≡ endFrom text from
+  endFrom-past =
+      endFrom-cases text (from + k) (λ (a : LineEnd). a ≡ endFrom text from)
+      (λ i f.
+      sym
+      (endFrom-first text from i
+      (record {
+        onward = omega (arith, f .onward);
+        inside = f .inside;
+        ends = f .ends;
+        none-before = λ j lo hi.
+            ⊎-elim (λ (e : leb (from + k) j ≡ true). f .none-before j (leb-true (from + k) j e) hi)
+            (λ (e : leb (from + k) j ≡ false). endless-before j lo (leb-false (from + k) j e))
+            (true-or-false (leb (from + k) j));
+      })))
+      (λ g.
+      endFrom-cases text from (λ (a : LineEnd). NoEnd ≡ a) (λ i f. absurd (none-at-all g i (f .onward) (f .inside) (f .ends))) (λ n. refl))
 
 -- ---- bytes that end no line, one after the other
 

@@ -18,8 +18,11 @@ Inv-loop text from i₀ i = firstFrom (endsAt text) At NoEnd i (length text - i)
 abbrev μ-loop : tie.MeasureT-loop
 μ-loop text from i₀ i = length text - i
 
+skip-requires : tie.Need-skip-requires Inv-loop μ-loop
+skip-requires c κs = search needs
+
 loop-holds : tie.Need-loop-holds Inv-loop μ-loop
-loop-holds c = endFrom-walk _ _
+loop-holds c = endFrom-walk _ _ ∙ c .skip .ensures
 
 shared-slice-read-if1 : tie.Need-shared-slice-read-if1 Inv-loop μ-loop
 shared-slice-read-if1 c = search needs
@@ -45,6 +48,7 @@ scan-spec =
     (tie.spec
     Inv-loop
     μ-loop
+    skip-requires
     loop-holds
     shared-slice-read-if1
     returns
