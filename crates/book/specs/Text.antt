@@ -15,6 +15,7 @@ use Rattle.tables.specs.declared.Header.{Header}
 use Rattle.tables.specs.Ledger.{Ledger}
 use Rattle.model.specs.declared.Answer.{Answer}
 use Rattle.model.specs.declared.Answer.the-variants.{Accepted, Refused}
+use Rattle.index.specs.Index.{Indexed}
 use Rattle.model.proofs.Laws.Invariant.{Safe}
 use Rattle.report.specs.Layout.{answerLength}
 use Rattle.report.specs.Run.{Run, runAt, kept, answerTo, afterLine, ended, toldEnded, takeText, toldText, endText, toldEnd}
@@ -25,13 +26,18 @@ use Rattle.book.specs.declared.text.Piece.{Piece}
 
 -- ---- a line
 
--- what was tested once: the memory is safe
-abbrev pub Known : Bool → Ledger → Type 0
-Known known l = known ≡ true → Safe l
+-- what was tested and made once: the memory is safe, and each table has its index
+pub record Prepared (mandateIndex collectionIndex : List ℕ) (l : Ledger) : Type 0 where
+  pub safe : Safe l
+  pub mandates : Indexed mandateIndex (l .mandates) (l .mandatesUsed)
+  pub collections : Indexed collectionIndex (l .collections) (l .collectionsUsed)
+
+abbrev pub Known : Bool → List ℕ → List ℕ → Ledger → Type 0
+Known known mandateIndex collectionIndex l = known ≡ true → Prepared mandateIndex collectionIndex l
 
 -- an event that was read, given to the ledger l
-pub record Sound (known : Bool) (l : Ledger) (e : Event) : Type 0 where
-  pub tested : Known known l
+pub record Sound (known : Bool) (mandateIndex collectionIndex : List ℕ) (l : Ledger) (e : Event) : Type 0 where
+  pub tested : Known known mandateIndex collectionIndex l
   pub is-within : checked e ≡ Within
 
 -- the line given to the ledger l: the answer, and the ledger l' after it
@@ -40,8 +46,8 @@ pub record LineTaken (l : Ledger) (line : List ℕ) (r : Outcome) (l' : Ledger) 
   pub after-is : l' ≡ afterLine l (readLine line)
 
 -- the memory was tested, and the buffer has room for an answer
-pub record AnswerRoom (known : Bool) (l : Ledger) (told : ℕ) (out : List ℕ) : Type 0 where
-  pub tested : Known known l
+pub record AnswerRoom (known : Bool) (mandateIndex collectionIndex : List ℕ) (l : Ledger) (told : ℕ) (out : List ℕ) : Type 0 where
+  pub tested : Known known mandateIndex collectionIndex l
   pub room : told + answerLength ≤ length out
 
 -- the line answered behind what was written before
@@ -52,8 +58,8 @@ pub record LineTold (l : Ledger) (p : Progress) (line out : List ℕ) (r : Progr
 
 -- ---- the lines of a text
 
-pub record TextRoom (known : Bool) (l : Ledger) (text out : List ℕ) : Type 0 where
-  pub tested : Known known l
+pub record TextRoom (known : Bool) (mandateIndex collectionIndex : List ℕ) (l : Ledger) (text out : List ℕ) : Type 0 where
+  pub tested : Known known mandateIndex collectionIndex l
   pub room : answerLength * length text ≤ length out
 
 -- the lines that have ended are answered, and the rest begins at a place

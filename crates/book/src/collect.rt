@@ -9,9 +9,10 @@ ghost use Rattle.model.specs.Deadlines.{keptDue};
 ghost use Rattle.model.specs.Effects.{presentedOn, newCollection};
 ghost use Rattle.book.specs.Calls.{Done};
 ghost use Rattle.book.specs.Mandates.{JudgedMandate};
-ghost use Rattle.book.specs.Collect.{presentationOf, standingAfter};
+ghost use Rattle.book.specs.Collect.{presentationOf, standingAfter, CollectDates, CollectStarts};
 use crate::Outcome;
 use crate::headers::dated_header;
+use crate::lookups::find;
 use crate::mandates::MandateVerdict;
 use crate::mandates::is_found;
 use crate::terms::judge_terms;
@@ -25,7 +26,6 @@ use tables::Mandate;
 use tables::Standing;
 use tables::State;
 use tables::creditors::bank_of;
-use tables::lookup::find;
 use tables::rows::mandate_at;
 use tables::rows::put_collection;
 use tables::rows::put_mandate;
@@ -45,18 +45,26 @@ fn judge_collect(
     header: Header,
     date: u64,
     p: Presentation,
+    mandate_from: usize,
+    collection_from: usize,
     mandates: &[u64],
     collections: &[u64],
 ) -> MandateVerdict
+    requires { ⌜ CollectDates date (p .requested) × CollectStarts p (now mandates) (header .mandates) «mandate_from» (now collections) (header .collections) «collection_from» ⌝ }
     ensures { λ r. ⌜ ((cr : List ℕ) (cp dp bp : List ℤ) → JudgedMandate (ledger header (now (mandates .entry)) (now (collections .entry)) cr cp dp bp) date (p .mandate) (Collect (presentationOf p)) r) ⌝ }
 {
     if date < header.latest {
         return MandateVerdict::Refuse(Refusal::BeforeLatest);
     }
-    if is_found(find(collections, header.collections, p.collection)) {
+    if is_found(find(
+        collections,
+        header.collections,
+        p.collection,
+        collection_from,
+    )) {
         return MandateVerdict::Refuse(Refusal::AlreadyExists);
     }
-    let Found::At(row) = find(mandates, header.mandates, p.mandate) else {
+    let Found::At(row) = find(mandates, header.mandates, p.mandate, mandate_from) else {
         return MandateVerdict::Refuse(Refusal::DoesNotExist);
     };
     if rows_of(collections) <= header.collections {
@@ -116,17 +124,29 @@ fn new_collection(creditors: &[u64], p: Presentation, m: Mandate, due: u64) -> C
     }
 }
 
+// Event 5: the collection goes into the next row, and the mandate into its own. Their numbers are looked for from rows on.
 pub fn collect(
     header: Header,
     date: u64,
     p: Presentation,
+    mandate_from: usize,
+    collection_from: usize,
     mandates: &mut [u64],
     collections: &mut [u64],
     creditors: &[u64],
 ) -> Outcome
+    requires { ⌜ CollectDates date (p .requested) × CollectStarts p (now mandates) (header .mandates) «mandate_from» (now collections) (header .collections) «collection_from» ⌝ }
     ensures { λ r. ⌜ ((cp dp bp : List ℤ) → Done (ledger header (now (mandates .entry)) (now (collections .entry)) (now (creditors .entry)) cp dp bp) date (Collect (presentationOf p)) r (ledger (r .header) (now (mandates .exit)) (now (collections .exit)) (now (creditors .entry)) cp dp bp)) ⌝ }
 {
-    match judge_collect(header, date, p, mandates, collections) {
+    match judge_collect(
+        header,
+        date,
+        p,
+        mandate_from,
+        collection_from,
+        mandates,
+        collections,
+    ) {
         MandateVerdict::Refuse(r) => Outcome {
             answer: Answer::Refused(r),
             header: header,

@@ -4,6 +4,7 @@ mod collect;
 mod creditors;
 pub mod event;
 mod headers;
+mod lookups;
 mod mandates;
 pub mod query;
 pub mod replay;

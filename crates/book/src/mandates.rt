@@ -4,6 +4,7 @@ ghost use mathlib.Core.List.{List};
 ghost use Prim.Native.Nat.{ℕ};
 ghost use lib.IntN.{ℤ};
 ghost use Rattle.tables.specs.Ledger.{ledger};
+ghost use Rattle.tables.specs.Lookup.{MayStart};
 ghost use Rattle.model.specs.Actions.Action.{AddMandate, ChangeMandate};
 ghost use Rattle.model.specs.Checks.{ruled, standsLive};
 ghost use Rattle.model.specs.Effects.{changed};
@@ -11,6 +12,7 @@ ghost use Rattle.book.specs.Calls.{Done};
 ghost use Rattle.book.specs.Mandates.{isFound, changeOf, namesAdded, JudgedMandate};
 use crate::Outcome;
 use crate::headers::dated_header;
+use crate::lookups::find;
 use model::Answer;
 use refusals::Refusal;
 use tables::Found;
@@ -18,7 +20,6 @@ use tables::Header;
 use tables::Mandate;
 use tables::Standing;
 use tables::creditors::is_added;
-use tables::lookup::find;
 use tables::rows::mandate_at;
 use tables::rows::put_mandate;
 use tables::rows::rows_of;
@@ -59,15 +60,17 @@ fn judge_mandate(
     header: Header,
     date: u64,
     m: Mandate,
+    from: usize,
     mandates: &[u64],
     creditors: &[u64],
 ) -> Answer
+    requires { ⌜ MayStart (now mandates) (header .mandates) (m .number) from ⌝ }
     ensures { λ r. ⌜ ((c : List ℕ) (cp dp bp : List ℤ) → r ≡ ruled (ledger header (now (mandates .entry)) c (now (creditors .entry)) cp dp bp) date (AddMandate m)) ⌝ }
 {
     if date < header.latest {
         return Answer::Refused(Refusal::BeforeLatest);
     }
-    if is_found(find(mandates, header.mandates, m.number)) {
+    if is_found(find(mandates, header.mandates, m.number, from)) {
         return Answer::Refused(Refusal::AlreadyExists);
     }
     if !is_added(creditors, m.creditor) {
@@ -79,17 +82,19 @@ fn judge_mandate(
     Answer::Accepted
 }
 
-// Event 2: the mandate goes into the next row.
+// Event 2: the mandate goes into the next row. Its number is looked for from a row on.
 pub fn add_mandate(
     header: Header,
     date: u64,
     m: Mandate,
+    from: usize,
     mandates: &mut [u64],
     creditors: &[u64],
 ) -> Outcome
+    requires { ⌜ MayStart (now mandates) (header .mandates) (m .number) from ⌝ }
     ensures { λ r. ⌜ ((c : List ℕ) (cp dp bp : List ℤ) → Done (ledger header (now (mandates .entry)) c (now (creditors .entry)) cp dp bp) date (AddMandate m) r (ledger (r .header) (now (mandates .exit)) c (now (creditors .entry)) cp dp bp)) ⌝ }
 {
-    match judge_mandate(header, date, m, mandates, creditors) {
+    match judge_mandate(header, date, m, from, mandates, creditors) {
         Answer::Refused(r) => Outcome {
             answer: Answer::Refused(r),
             header: header,
@@ -121,15 +126,17 @@ fn judge_change(
     date: u64,
     number: u64,
     change: Change,
+    from: usize,
     mandates: &[u64],
     creditors: &[u64],
 ) -> MandateVerdict
+    requires { ⌜ MayStart (now mandates) (header .mandates) number from ⌝ }
     ensures { λ r. ⌜ ((c : List ℕ) (cp dp bp : List ℤ) → JudgedMandate (ledger header (now (mandates .entry)) c (now (creditors .entry)) cp dp bp) date number (ChangeMandate number (changeOf change)) r) ⌝ }
 {
     if date < header.latest {
         return MandateVerdict::Refuse(Refusal::BeforeLatest);
     }
-    let Found::At(row) = find(mandates, header.mandates, number) else {
+    let Found::At(row) = find(mandates, header.mandates, number, from) else {
         return MandateVerdict::Refuse(Refusal::DoesNotExist);
     };
     if !names_added(change, creditors) {
@@ -204,18 +211,20 @@ fn changed_mandate(change: Change, m: Mandate) -> Mandate
     }
 }
 
-// Events 3 and 4: the mandate of a number changes in its row.
+// Events 3 and 4: the mandate of a number, looked for from a row on, changes in its row.
 pub fn change_mandate(
     header: Header,
     date: u64,
     number: u64,
     change: Change,
+    from: usize,
     mandates: &mut [u64],
     creditors: &[u64],
 ) -> Outcome
+    requires { ⌜ MayStart (now mandates) (header .mandates) number from ⌝ }
     ensures { λ r. ⌜ ((c : List ℕ) (cp dp bp : List ℤ) → Done (ledger header (now (mandates .entry)) c (now (creditors .entry)) cp dp bp) date (ChangeMandate number (changeOf change)) r (ledger (r .header) (now (mandates .exit)) c (now (creditors .entry)) cp dp bp)) ⌝ }
 {
-    match judge_change(header, date, number, change, mandates, creditors) {
+    match judge_change(header, date, number, change, from, mandates, creditors) {
         MandateVerdict::Refuse(r) => Outcome {
             answer: Answer::Refused(r),
             header: header,

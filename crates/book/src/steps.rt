@@ -9,7 +9,7 @@ ghost use Rattle.model.specs.Actions.{newMandate, presentation, actionOf};
 ghost use Rattle.book.specs.Calls.{Done};
 ghost use Rattle.book.specs.Mandates.{changeOf};
 ghost use Rattle.book.specs.Collect.{presentationOf};
-ghost use Rattle.book.specs.Events.{amendmentIn, Recorded, Admitted, Taken};
+ghost use Rattle.book.specs.Events.{amendmentIn, Starts, Recorded, Admitted, Taken};
 use crate::Outcome;
 use crate::collect::Presentation;
 use crate::collect::collect;
@@ -67,27 +67,46 @@ fn presentation_of(e: Event) -> Presentation
     }
 }
 
-// Events 1 to 5, which write records and post nothing.
+// Events 1 to 5, which write records and post nothing. The mandate and the collection that the event names are looked for
+// from rows on.
 fn record_event(
     header: Header,
     e: Event,
+    mandate_from: usize,
+    collection_from: usize,
     mandates: &mut [u64],
     collections: &mut [u64],
     creditors: &mut [u64],
 ) -> Outcome
-    requires { ⌜ Recorded e ⌝ }
+    requires { ⌜ Recorded e × Starts e (now mandates) (header .mandates) «mandate_from» (now collections) (header .collections) «collection_from» ⌝ }
     ensures { λ r. ⌜ ((cp dp bp : List ℤ) → Done (ledger header (now (mandates .entry)) (now (collections .entry)) (now (creditors .entry)) cp dp bp) (e .date) (actionOf e) r (ledger (r .header) (now (mandates .exit)) (now (collections .exit)) (now (creditors .exit)) cp dp bp)) ⌝ }
 {
     let kind = e.kind;
     match kind {
         1 => add_creditor(header, e.date, e.a, e.b, creditors),
-        2 => add_mandate(header, e.date, new_mandate(e), mandates, creditors),
-        3 => change_mandate(header, e.date, e.mandate, amendment(e), mandates, creditors),
+        2 => add_mandate(
+            header,
+            e.date,
+            new_mandate(e),
+            mandate_from,
+            mandates,
+            creditors,
+        ),
+        3 => change_mandate(
+            header,
+            e.date,
+            e.mandate,
+            amendment(e),
+            mandate_from,
+            mandates,
+            creditors,
+        ),
         4 => change_mandate(
             header,
             e.date,
             e.mandate,
             Change::Cancel,
+            mandate_from,
             mandates,
             creditors,
         ),
@@ -95,6 +114,8 @@ fn record_event(
             header,
             e.date,
             presentation_of(e),
+            mandate_from,
+            collection_from,
             mandates,
             collections,
             creditors,
@@ -106,6 +127,8 @@ fn record_event(
 pub fn act(
     header: Header,
     e: Event,
+    mandate_from: usize,
+    collection_from: usize,
     mandates: &mut [u64],
     collections: &mut [u64],
     creditors: &mut [u64],
@@ -113,18 +136,27 @@ pub fn act(
     debtor_positions: &mut [i64],
     bank_positions: &mut [i64],
 ) -> Outcome
-    requires { ⌜ Admitted (ledger header (now mandates) (now collections) (now creditors) (now «creditor_positions») (now «debtor_positions») (now «bank_positions»)) e ⌝ }
+    requires { ⌜ Admitted (ledger header (now mandates) (now collections) (now creditors) (now «creditor_positions») (now «debtor_positions») (now «bank_positions»)) e × Starts e (now mandates) (header .mandates) «mandate_from» (now collections) (header .collections) «collection_from» ⌝ }
     ensures { λ r. ⌜ Done (ledger header (now (mandates .entry)) (now (collections .entry)) (now (creditors .entry)) (now («creditor_positions» .entry)) (now («debtor_positions» .entry)) (now («bank_positions» .entry))) (e .date) (actionOf e) r
         (ledger (r .header) (now (mandates .exit)) (now (collections .exit)) (now (creditors .exit)) (now («creditor_positions» .exit)) (now («debtor_positions» .exit)) (now («bank_positions» .exit))) ⌝ }
 {
     if e.kind <= 5 {
-        return record_event(header, e, mandates, collections, creditors);
+        return record_event(
+            header,
+            e,
+            mandate_from,
+            collection_from,
+            mandates,
+            collections,
+            creditors,
+        );
     }
     treat(
         header,
         e.date,
         e.a,
         treatment_of(e),
+        collection_from,
         collections,
         creditor_positions,
         debtor_positions,
@@ -155,6 +187,8 @@ pub fn take_fit(
         Checked::Within => act(
             header,
             e,
+            0,
+            0,
             mandates,
             collections,
             creditors,

@@ -2,11 +2,13 @@
 ghost use mathlib.Core.Path.{_≡_};
 ghost use mathlib.Core.List.{[]};
 ghost use mathlib.Core.Bool.{_&&_};
-ghost use Prim.Native.Nat.{_/_, _≤_, min};
+ghost use Prim.Native.Nat.{ℕ, _/_, _≤_, min};
 ghost use lib.Dec.{leb};
 ghost use lib.ListN.{length, take, drop};
 ghost use Rattle.events.specs.Line.{pasted};
 ghost use Rattle.tables.specs.Ledger.{ledger};
+ghost use Rattle.tables.specs.Lookup.{MayStart};
+ghost use Rattle.index.specs.Index.{Indexed};
 ghost use Rattle.model.specs.Step.{answerNumber};
 ghost use Rattle.report.specs.Layout.{answerLength};
 ghost use Rattle.report.specs.Run.{runAt, keptLength, kept};
@@ -20,6 +22,9 @@ use crate::steps::act;
 use events::Event;
 use events::limits::Checked;
 use events::line::read_cells;
+use index::INDEX;
+use index::first_row;
+use index::index_rows;
 use model::Answer;
 use refusals::Refusal;
 use refusals::number_of;
@@ -71,11 +76,24 @@ fn answer_number(answer: Answer) -> u64
     }
 }
 
-// An event within its limits; memory that is known to be safe is not tested again.
+// A row from which a number may be looked for: by the index if the event names it, else the first row.
+fn start(named: bool, index: &[u16; INDEX], cells: &[u64], number: u64) -> usize
+    ensures { λ r. ⌜ ((used : ℕ) → Indexed (now (index .entry)) (now (cells .entry)) used → MayStart (now (cells .entry)) used number r) ⌝ }
+{
+    if named {
+        return first_row(index, cells, number);
+    }
+    0
+}
+
+// An event within its limits; memory that is known to be safe is not tested again, and what the event names is looked for
+// from where the indexes say.
 fn take_sound(
     known: bool,
     header: Header,
     e: Event,
+    mandate_index: &[u16; INDEX],
+    collection_index: &[u16; INDEX],
     mandates: &mut [u64],
     collections: &mut [u64],
     creditors: &mut [u64],
@@ -83,7 +101,7 @@ fn take_sound(
     debtor_positions: &mut [i64],
     bank_positions: &mut [i64],
 ) -> Outcome
-    requires { ⌜ Sound known (ledger header (now mandates) (now collections) (now creditors) (now «creditor_positions») (now «debtor_positions») (now «bank_positions»)) e ⌝ }
+    requires { ⌜ Sound known (now «mandate_index») (now «collection_index») (ledger header (now mandates) (now collections) (now creditors) (now «creditor_positions») (now «debtor_positions») (now «bank_positions»)) e ⌝ }
     ensures { λ r. ⌜ Taken (ledger header (now (mandates .entry)) (now (collections .entry)) (now (creditors .entry)) (now («creditor_positions» .entry)) (now («debtor_positions» .entry)) (now («bank_positions» .entry))) e r
         (ledger (r .header) (now (mandates .exit)) (now (collections .exit)) (now (creditors .exit)) (now («creditor_positions» .exit)) (now («debtor_positions» .exit)) (now («bank_positions» .exit))) ⌝ }
 {
@@ -91,6 +109,8 @@ fn take_sound(
         return act(
             header,
             e,
+            start(e.kind <= 5, mandate_index, mandates, e.mandate),
+            start(5 <= e.kind, collection_index, collections, e.a),
             mandates,
             collections,
             creditors,
@@ -116,6 +136,8 @@ fn take_line(
     known: bool,
     header: Header,
     line: &[u8],
+    mandate_index: &[u16; INDEX],
+    collection_index: &[u16; INDEX],
     mandates: &mut [u64],
     collections: &mut [u64],
     creditors: &mut [u64],
@@ -123,7 +145,7 @@ fn take_line(
     debtor_positions: &mut [i64],
     bank_positions: &mut [i64],
 ) -> Outcome
-    requires { ⌜ Known known (ledger header (now mandates) (now collections) (now creditors) (now «creditor_positions») (now «debtor_positions») (now «bank_positions»)) ⌝ }
+    requires { ⌜ Known known (now «mandate_index») (now «collection_index») (ledger header (now mandates) (now collections) (now creditors) (now «creditor_positions») (now «debtor_positions») (now «bank_positions»)) ⌝ }
     ensures { λ r. ⌜ LineTaken (ledger header (now (mandates .entry)) (now (collections .entry)) (now (creditors .entry)) (now («creditor_positions» .entry)) (now («debtor_positions» .entry)) (now («bank_positions» .entry))) (now (line .entry)) r
         (ledger (r .header) (now (mandates .exit)) (now (collections .exit)) (now (creditors .exit)) (now («creditor_positions» .exit)) (now («debtor_positions» .exit)) (now («bank_positions» .exit))) ⌝ }
 {
@@ -137,6 +159,8 @@ fn take_line(
             known,
             header,
             event_at(&cells, 0),
+            mandate_index,
+            collection_index,
             mandates,
             collections,
             creditors,
@@ -153,6 +177,8 @@ fn end_line(
     p: Progress,
     line: &[u8],
     out: &mut [u8],
+    mandate_index: &[u16; INDEX],
+    collection_index: &[u16; INDEX],
     mandates: &mut [u64],
     collections: &mut [u64],
     creditors: &mut [u64],
@@ -160,7 +186,7 @@ fn end_line(
     debtor_positions: &mut [i64],
     bank_positions: &mut [i64],
 ) -> Progress
-    requires { ⌜ AnswerRoom known (ledger (p .header) (now mandates) (now collections) (now creditors) (now «creditor_positions») (now «debtor_positions») (now «bank_positions»)) (p .told) (now out) ⌝ }
+    requires { ⌜ AnswerRoom known (now «mandate_index») (now «collection_index») (ledger (p .header) (now mandates) (now collections) (now creditors) (now «creditor_positions») (now «debtor_positions») (now «bank_positions»)) (p .told) (now out) ⌝ }
     ensures { λ r. ⌜ LineTold (ledger (p .header) (now (mandates .entry)) (now (collections .entry)) (now (creditors .entry)) (now («creditor_positions» .entry)) (now («debtor_positions» .entry)) (now («bank_positions» .entry))) p (now (line .entry)) (now (out .entry)) r
         (ledger (r .header) (now (mandates .exit)) (now (collections .exit)) (now (creditors .exit)) (now («creditor_positions» .exit)) (now («debtor_positions» .exit)) (now («bank_positions» .exit))) (now (out .exit)) ⌝ }
 {
@@ -174,6 +200,8 @@ fn end_line(
         known,
         header,
         line,
+        mandate_index,
+        collection_index,
         mandates,
         collections,
         creditors,
@@ -198,6 +226,8 @@ fn take_lines(
     lines: u64,
     text: &[u8],
     out: &mut [u8],
+    mandate_index: &[u16; INDEX],
+    collection_index: &[u16; INDEX],
     mandates: &mut [u64],
     collections: &mut [u64],
     creditors: &mut [u64],
@@ -205,7 +235,7 @@ fn take_lines(
     debtor_positions: &mut [i64],
     bank_positions: &mut [i64],
 ) -> Lines
-    requires { ⌜ TextRoom known (ledger header (now mandates) (now collections) (now creditors) (now «creditor_positions») (now «debtor_positions») (now «bank_positions»)) (now text) (now out) ⌝ }
+    requires { ⌜ TextRoom known (now «mandate_index») (now «collection_index») (ledger header (now mandates) (now collections) (now creditors) (now «creditor_positions») (now «debtor_positions») (now «bank_positions»)) (now text) (now out) ⌝ }
     ensures { λ r. ⌜ LinesTold (runAt (ledger header (now (mandates .entry)) (now (collections .entry)) (now (creditors .entry)) (now («creditor_positions» .entry)) (now («debtor_positions» .entry)) (now («bank_positions» .entry))) lines []) (now (text .entry)) (now (out .entry)) r
         (ledger (r .header) (now (mandates .exit)) (now (collections .exit)) (now (creditors .exit)) (now («creditor_positions» .exit)) (now («debtor_positions» .exit)) (now («bank_positions» .exit))) (now (out .exit)) ⌝ }
 {
@@ -231,6 +261,8 @@ fn take_lines(
             p,
             &text[at..next],
             out,
+            mandate_index,
+            collection_index,
             mandates,
             collections,
             creditors,
@@ -299,7 +331,7 @@ fn unfit(header: Header, lines: u64, filled: usize) -> Piece
 }
 
 // Takes a piece of input, its first `filled` bytes: answers every line that has ended, and puts what is kept of the next
-// one to the front of the text. The memory is tested once.
+// one to the front of the text. The memory is tested once, and each table gets an index.
 pub fn take_text(
     header: Header,
     lines: u64,
@@ -328,12 +360,16 @@ pub fn take_text(
         debtor_positions,
         bank_positions,
     );
+    let mandate_index = index_rows(mandates, header.mandates);
+    let collection_index = index_rows(collections, header.collections);
     let done = take_lines(
         known,
         header,
         lines,
         &text[..filled],
         out,
+        &mandate_index,
+        &collection_index,
         mandates,
         collections,
         creditors,
@@ -387,11 +423,14 @@ pub fn end_text(
         lines: lines,
         told: 0,
     };
+    let no_index = [0; INDEX];
     let done = end_line(
         false,
         start,
         &text[..filled],
         out,
+        &no_index,
+        &no_index,
         mandates,
         collections,
         creditors,

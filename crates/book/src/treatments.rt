@@ -6,6 +6,7 @@ ghost use Prim.Native.Nat.{ℕ, _≤_};
 ghost use lib.IntN.{natAbs};
 ghost use Rattle.positions.specs.Positions.{positionLimit};
 ghost use Rattle.tables.specs.Ledger.{ledger};
+ghost use Rattle.tables.specs.Lookup.{MayStart};
 ghost use Rattle.model.specs.Actions.Action.{Treat};
 ghost use Rattle.book.specs.declared.verdicts.Verdict.the-variants.{Post};
 ghost use Rattle.book.specs.Calls.{Done};
@@ -86,21 +87,22 @@ fn write(
     header_after(header, date, p.compensation)
 }
 
-// Events 6 to 10: the collection of a number is treated.
+// Events 6 to 10: the collection of a number, looked for from a row on, is treated.
 pub fn treat(
     header: Header,
     date: u64,
     number: u64,
     t: Treatment,
+    from: usize,
     collections: &mut [u64],
     creditor_positions: &mut [i64],
     debtor_positions: &mut [i64],
     bank_positions: &mut [i64],
 ) -> Outcome
-    requires { ⌜ Ready (treatmentOf t) (header .latest) date (header .compensation) (now collections) (header .collections) (now «creditor_positions») (now «debtor_positions») (now «bank_positions») ⌝ }
+    requires { ⌜ Ready (treatmentOf t) (header .latest) date (header .compensation) (now collections) (header .collections) (now «creditor_positions») (now «debtor_positions») (now «bank_positions») × MayStart (now collections) (header .collections) number from ⌝ }
     ensures { λ r. ⌜ ((m c : List ℕ) → Done (ledger header m (now (collections .entry)) c (now («creditor_positions» .entry)) (now («debtor_positions» .entry)) (now («bank_positions» .entry))) date (Treat number (treatmentOf t)) r (ledger (r .header) m (now (collections .exit)) c (now («creditor_positions» .exit)) (now («debtor_positions» .exit)) (now («bank_positions» .exit)))) ⌝ }
 {
-    match judge(header, date, number, t, collections) {
+    match judge(header, date, number, t, from, collections) {
         Verdict::Refuse(r) => Outcome {
             answer: Answer::Refused(r),
             header: header,

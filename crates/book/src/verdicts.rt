@@ -5,6 +5,8 @@ ghost use Rattle.model.specs.Checks.{isPresented, isSettled, settledOn, dayTrea
 ghost use Rattle.model.specs.Effects.{undoingOf as undoingIn, stateAfter, treated as treatedBy};
 ghost use Rattle.book.specs.Treatments.{wayOf, treatmentOf, postVerdict, goVerdict, rowVerdict, verdictOf};
 ghost use Rattle.book.specs.Ready.{Payable, RowReady, Judgeable};
+ghost use Rattle.tables.specs.Lookup.{MayStart};
+use crate::lookups::find;
 use crate::undoing::Way;
 use crate::undoing::is_in_time;
 use crate::undoing::undone;
@@ -18,7 +20,6 @@ use tables::Found;
 use tables::Header;
 use tables::State;
 use tables::Undoing;
-use tables::lookup::find;
 use tables::rows::collection_at;
 
 // What becomes of a collection.
@@ -192,9 +193,16 @@ fn row_verdict(t: Treatment, date: u64, row: usize, k: Collection) -> Verdict
     go_verdict(t, date, row, k)
 }
 
-// The verdict on the collection of a number.
-pub fn judge(header: Header, date: u64, number: u64, t: Treatment, collections: &[u64]) -> Verdict
-    requires { ⌜ Judgeable (treatmentOf t) (header .latest) date (now collections) (header .collections) ⌝ }
+// The verdict on the collection of a number, looked for from a row on.
+pub fn judge(
+    header: Header,
+    date: u64,
+    number: u64,
+    t: Treatment,
+    from: usize,
+    collections: &[u64],
+) -> Verdict
+    requires { ⌜ Judgeable (treatmentOf t) (header .latest) date (now collections) (header .collections) × MayStart (now collections) (header .collections) number from ⌝ }
     ensures { λ r. ⌜ r ≡ verdictOf (treatmentOf t) (header .latest) date (now (collections .entry)) (header .collections) number ⌝ }
 {
     if date < header.latest {
@@ -203,7 +211,7 @@ pub fn judge(header: Header, date: u64, number: u64, t: Treatment, collections: 
     if !day_fits(t, date) {
         return Verdict::Refuse(Refusal::NotBusinessDay);
     }
-    match find(collections, header.collections, number) {
+    match find(collections, header.collections, number, from) {
         Found::At(row) => row_verdict(t, date, row, collection_at(collections, row)),
         Found::Nothing => Verdict::Refuse(Refusal::DoesNotExist),
     }

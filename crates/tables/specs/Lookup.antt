@@ -1,8 +1,9 @@
 -- Lookup by number. Document 01, "What is refused": "Where unfit use left two rows of one number, the lowest row counts."
 -- To cite: proofs/Laws/Lookup. Assumes nothing.
+use mathlib.Core.Path.{_≡_}
 use mathlib.Core.Bool.{Bool, cond}
 use mathlib.Core.List.{List}
-use Prim.Native.Nat.{ℕ, _*_}
+use Prim.Native.Nat.{ℕ, _-_, _*_}
 use lib.Dec.{eqb, ltb}
 use lib.ListN.{getD}
 use Rattle.common.specs.Walk.{firstFrom}
@@ -25,3 +26,11 @@ existing cells used = cond (ltb used (rows cells)) used (rows cells)
 -- the lowest used row of the number
 unfoldable pub lookup : List ℕ → ℕ → ℕ → Found
 lookup cells used number = firstFrom (numberIs cells number) At Nothing 0 (existing cells used)
+
+-- the lowest used row of the number from a row on
+unfoldable pub lookupSince : List ℕ → ℕ → ℕ → ℕ → Found
+lookupSince cells used number since = firstFrom (numberIs cells number) At Nothing since (existing cells used - since)
+
+-- no row before it has the number: the lookup may start there
+abbrev pub MayStart : List ℕ → ℕ → ℕ → ℕ → Type 0
+MayStart cells used number since = lookupSince cells used number since ≡ lookup cells used number

@@ -30,8 +30,9 @@ use Rattle.tables.specs.Ledger.{Ledger}
 use Rattle.model.specs.declared.Answer.{Answer}
 use Rattle.model.specs.declared.Answer.the-variants.{Accepted, Refused}
 use Rattle.model.specs.Step.{answerNumber}
-use Rattle.model.proofs.Laws.Invariant.{Safe}
+use Rattle.index.proofs.Laws.Following.{indexed-kept}
 use Rattle.model.proofs.Laws.Batch.{after-safe}
+use Rattle.model.proofs.Laws.Grown.{mandates-grown, collections-grown}
 use Rattle.report.specs.Layout.{answerLength, answerLine, answerFits, lastNumber, lastAnswer}
 use Rattle.report.specs.Run.{Run, runAt, keptLength, kept, answerTo, afterLine, ended, toldEnded, takeText, toldText}
 use Rattle.report.proofs.Laws.Cut.{FirstEnd}
@@ -42,7 +43,7 @@ use Rattle.book.specs.Events.{Taken}
 use Rattle.book.specs.Replay.{eventAt}
 use Rattle.book.specs.declared.text.Progress.{Progress}
 use Rattle.book.specs.declared.text.Lines.{Lines}
-use Rattle.book.specs.Text.{Known, LineTaken, LineTold, LinesTold, unfitPiece, pieceFits, PieceTaken, endFits, EndTaken}
+use Rattle.book.specs.Text.{Prepared, Known, LineTaken, LineTold, LinesTold, unfitPiece, pieceFits, PieceTaken, endFits, EndTaken}
 
 -- ---- a line
 
@@ -104,17 +105,23 @@ module _ (l : Ledger) (p : Progress) (line out : List ℕ) (h : p .lines < lastN
 
 -- ---- the lines of a text
 
--- a line keeps safe memory safe
-line-safe : (l : Ledger) (a : LineAnswer) → Safe l → Safe (afterLine l a)
-line-safe l (lines.Taken e) s = after-safe l e s
-line-safe l (lines.Refused r) s = s
+-- what was prepared stays so: a line keeps safe memory safe, and the rows that the indexes cover
+module _ (mandateIndex collectionIndex : List ℕ) where
+  line-prepared : (l : Ledger) (a : LineAnswer) → Prepared mandateIndex collectionIndex l → Prepared mandateIndex collectionIndex (afterLine l a)
+  line-prepared l (lines.Taken e) p =
+      record {
+        safe = after-safe l e (p .safe);
+        mandates = indexed-kept mandateIndex (l .mandates) _ (l .mandatesUsed) _ (p .mandates) (mandates-grown l e);
+        collections = indexed-kept collectionIndex (l .collections) _ (l .collectionsUsed) _ (p .collections) (collections-grown l e);
+      }
+  line-prepared l (lines.Refused r) p = p
 
-ended-safe : (l : Ledger) (n : ℕ) (line : List ℕ) → Safe l → Safe (ended (runAt l n []) line .book)
-ended-safe l n line s = by-more (ltb n lastNumber)
-  where
-    by-more : (more : Bool) → Safe (cond more (runAt (afterLine l (readLine line)) (n + 1) []) (runAt l n []) .book)
-    by-more true = line-safe l (readLine line) s
-    by-more false = s
+  ended-prepared : (l : Ledger) (n : ℕ) (line : List ℕ) → Prepared mandateIndex collectionIndex l → Prepared mandateIndex collectionIndex (ended (runAt l n []) line .book)
+  ended-prepared l n line p = by-more (ltb n lastNumber)
+    where
+      by-more : (more : Bool) → Prepared mandateIndex collectionIndex (cond more (runAt (afterLine l (readLine line)) (n + 1) []) (runAt l n []) .book)
+      by-more true = line-prepared l (readLine line) p
+      by-more false = p
 
 -- a line writes one answer at most
 ended-short : (r : Run) (line : List ℕ) → length (toldEnded r line) ≤ answerLength
@@ -125,16 +132,20 @@ ended-short r line = by-more (ltb (r .lines) lastNumber)
     by-more false = omega arith
 
 -- the lines before a place have been answered
-pub record Telling (known : Bool) (s : Run) (text out : List ℕ) (at : ℕ) (l : Ledger) (p : Progress) (out' : List ℕ) : Type 0 where
-  pub tested : Known known l
+pub record Telling
+    (known : Bool) (mandateIndex collectionIndex : List ℕ) (s : Run) (text out : List ℕ) (at : ℕ) (l : Ledger) (p : Progress) (out' : List ℕ) : Type 0 where
+  pub tested : Known known mandateIndex collectionIndex l
   pub answered : Answering s text at l (p .lines) (toldText s (take at text))
   pub bytes : out' ≡ pasted 0 (toldText s (take at text)) out
   pub told : p .told ≡ length (toldText s (take at text))
   pub few : p .told ≤ answerLength * at
   pub inside : at ≤ length text
 
-module _ (known : Bool) (text out : List ℕ) where
-  pub telling-start : (l : Ledger) (p : Progress) → Known known l → p .told ≡ 0 → Telling known (runAt l (p .lines) []) text out 0 l p out
+module _ (known : Bool) (mandateIndex collectionIndex text out : List ℕ) where
+  pub telling-start : (l : Ledger) (p : Progress)
+      → Known known mandateIndex collectionIndex l
+      → p .told ≡ 0
+      → Telling known mandateIndex collectionIndex (runAt l (p .lines) []) text out 0 l p out
   unfolding takeText toldText
   telling-start l p k z =
       record {
@@ -149,10 +160,10 @@ module _ (known : Bool) (text out : List ℕ) where
   -- one line more, from at to k
   module _ (s : Run) (at k : ℕ) (f : FirstEnd text at k) where
     pub telling-line : (l l' : Ledger) (p r : Progress) (line mid next : List ℕ)
-        → Telling known s text out at l p mid
+        → Telling known mandateIndex collectionIndex s text out at l p mid
         → line ≡ take (k + 1 - at) (drop at text)
         → LineTold l p line mid r l' next
-        → Telling known s text out (k + 1) l' r next
+        → Telling known mandateIndex collectionIndex s text out (k + 1) l' r next
     telling-line l l' p r line mid next t e w =
         let told = toldText s (take at text) in
         let more = toldEnded (runAt l (p .lines) []) line in
@@ -160,7 +171,7 @@ module _ (known : Bool) (text out : List ℕ) where
         let q : toldText s (take (k + 1) text) ≡ told ++ more = a .so-far in
         let n : length (toldText s (take (k + 1) text)) ≡ length told + length more = ap length q ∙ length-append told more in
         record {
-          tested = λ i. rw (ap (λ (x : Run). x .book) (w .run)) (ended-safe l (p .lines) line (t .tested i));
+          tested = λ i. rw (ap (λ (x : Run). x .book) (w .run)) (ended-prepared mandateIndex collectionIndex l (p .lines) line (t .tested i));
           answered = record { now = a .now; so-far = refl };
           bytes = rw q (pasted-next 0 told out (p .told) more mid next (omega arith) (sym (t .told)) (t .bytes) (rw (zero-add) (w .bytes)));
           told = omega (arith, w .told, t .told, n);
@@ -170,7 +181,7 @@ module _ (known : Bool) (text out : List ℕ) where
 
   -- no line ends behind the place
   pub telling-end : (s : Run) (at : ℕ) (l : Ledger) (p : Progress) (out' : List ℕ) (h : Header)
-      → Telling known s text out at l p out'
+      → Telling known mandateIndex collectionIndex s text out at l p out'
       → ((j : ℕ) → at ≤ j → j < length text → getD text j 0 ≢ lineEnd)
       → LinesTold s text out (record { header = h; lines = p .lines; told = p .told; at = at }) l out'
   telling-end s at l p out' h t none =

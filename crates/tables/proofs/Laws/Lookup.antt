@@ -1,7 +1,7 @@
 -- Laws of specs/Lookup: a row that is found is the lowest used one of its number, rows passed over, and what a written row
 -- does to a lookup.
--- To cite: `Lowest` with `lookup-at` and `lookup-made`, `lookup-used`, `lookup-lent`, `lookup-nothing`, `lookup-none`, `lookup-put-kept`,
--- `lookup-put-next`, `mandateAt-number`, `collectionAt-number`. Assumes nothing.
+-- To cite: `Lowest` with `lookup-at` and `lookup-made`, `lookup-used`, `lookup-lent`, `lookup-nothing`, `lookup-none`, `lookup-since`, `lookup-put-kept`,
+-- `lookup-put-next`, `Grown` with `grown-same`, `grown-put-kept` and `grown-put-next`, `mandateAt-number`, `collectionAt-number`. Assumes nothing.
 use mathlib.Core.Path.{_≡_, refl, sym, _∙_, ap}
 use mathlib.Core.Bool.{Bool, false, cond, _||_}
 use mathlib.Core.List.{List, [], _∷_}
@@ -16,13 +16,13 @@ use lib.ListN.{length, getD}
 use Rattle.common.specs.Tests.{anyOf}
 use Rattle.common.specs.Walk.{firstFrom}
 use Rattle.common.proofs.Tests.{true-or-false, anyOf-at}
-use Rattle.common.proofs.Walk.{firstFrom-miss, firstFrom-cases, firstFrom-more, firstFrom-same, firstFrom-through}
+use Rattle.common.proofs.Walk.{all-left, firstFrom-miss, firstFrom-cases, firstFrom-more, firstFrom-same, firstFrom-through}
 use Rattle.tables.specs.declared.Found.{Found}
 use Rattle.tables.specs.declared.Found.the-variants.{At, Nothing}
 use Rattle.tables.specs.Limits.{stride}
 use Rattle.tables.specs.Records.{mandateOf, collectionOf}
 use Rattle.tables.specs.Rows.{rows, putRow, mandateAt, collectionAt}
-use Rattle.tables.specs.Lookup.{numberAt, numberIs, existing, lookup}
+use Rattle.tables.specs.Lookup.{numberAt, numberIs, existing, lookup, lookupSince, MayStart}
 use Rattle.tables.proofs.Laws.Rows.{rows-put, cell-put-same, cell-put-other}
 
 -- ---- existing
@@ -45,6 +45,14 @@ module _ (cells : List ℕ) (used : ℕ) where
   -- no more rows used than lent: each of them exists
   pub existing-fit : used ≤ rows cells → existing cells used ≡ used
   existing-fit l = existing-cases (λ (n : ℕ). n ≡ used) (λ h. refl) (λ h. omega arith)
+
+-- one row more
+existing-more : (cells : List ℕ) (used : ℕ) → existing cells used ≤ existing cells (used + 1)
+existing-more cells used =
+    existing-cases cells (used + 1)
+    (λ (n : ℕ). existing cells used ≤ n)
+    (λ h. omega (arith, existing-used cells used))
+    (λ h. existing-rows cells used)
 
 -- ---- lookup
 
@@ -163,6 +171,27 @@ module _ (cells : List ℕ) (number : ℕ) where
       walk-past i n 4 (omega arith) (f (anyOf-at (a ∷ b ∷ []) 0 none))
       ∙ rw e at (walk-past (i + 4) n 4 (omega arith) (g (anyOf-at (a ∷ b ∷ []) 1 none)))
 
+-- ---- a lookup from a row on
+
+module _ (cells : List ℕ) (used number : ℕ) where
+  -- the walk from a row on, over the used rows that there are
+  pub since-walk : (since n : ℕ) → n ≡ existing cells used → firstFrom (numberIs cells number) At Nothing since (n - since) ≡ lookupSince cells used number since
+  unfolding lookupSince
+  since-walk since n e = rw e
+
+  pub lookup-since-first : MayStart cells used number 0
+  unfolding lookupSince lookup
+  lookup-since-first = rw (all-left (existing cells used))
+
+  -- no row before it has the number: the lookup may begin there
+  pub lookup-since : (since : ℕ) → since ≤ existing cells used → ((j : ℕ) → j < since → numberIs cells number j ≡ false) → MayStart cells used number since
+  unfolding lookupSince
+  lookup-since since h none =
+      let z : 0 + since ≡ since = omega arith in
+      let a : (k : ℕ) → 0 + k ≡ k = λ k. omega arith in
+      sym (rw z at (walk-past cells number 0 (existing cells used) since (omega arith) (λ k l. rw (a k) (none k l))))
+      ∙ rw (all-left (existing cells used)) (lookup-walk cells used number (existing cells used) refl)
+
 -- ---- a row's number in its record
 
 pub mandateAt-number : (cells : List ℕ) (row : ℕ) → mandateAt cells row .number ≡ numberAt cells row
@@ -172,6 +201,16 @@ mandateAt-number cells row = rw (add-zero (row * stride))
 pub collectionAt-number : (cells : List ℕ) (row : ℕ) → collectionAt cells row .number ≡ numberAt cells row
 unfolding collectionAt collectionOf
 collectionAt-number cells row = rw (add-zero (row * stride))
+
+-- ---- rows that stay
+
+-- every used row is still there, with its number; there may be more
+pub record Grown (cells : List ℕ) (used : ℕ) (cells' : List ℕ) (used' : ℕ) : Type 0 where
+  pub there : existing cells used ≤ existing cells' used'
+  pub same : (row : ℕ) → row < existing cells used → numberAt cells' row ≡ numberAt cells row
+
+pub grown-same : (cells : List ℕ) (used : ℕ) → Grown cells used cells used
+grown-same cells used = record { there = omega arith; same = λ row h. refl }
 
 -- ---- lookup after a row is written
 
@@ -190,10 +229,10 @@ module _ (cells : List ℕ) (row : ℕ) (fields : List ℕ) (e : length fields �
   pub numberAt-put-other : (other : ℕ) → other ≢ row → numberAt (putRow stride cells row fields) other ≡ numberAt cells other
   numberAt-put-other other ne = rw first-cell at (cell-put-other stride cells row fields e other 0 ne (omega arith))
 
-  same-number :
+  pub numberAt-put-kept :
       row < rows cells → getD fields 0 0 ≡ numberAt cells row → (j : ℕ)
       → numberAt (putRow stride cells row fields) j ≡ numberAt cells j
-  same-number h s j =
+  numberAt-put-kept h s j =
       ⊎-elim
       (λ q. let p = eqb-true j row q in rw p (numberAt-put-same h ∙ s))
       (λ q. numberAt-put-other j (eqb-false j row q))
@@ -207,7 +246,20 @@ module _ (cells : List ℕ) (row : ℕ) (fields : List ℕ) (e : length fields �
   lookup-put-kept h s used number =
       rw (rows-put stride cells row fields)
       (firstFrom-same (numberIs (putRow stride cells row fields) number) (numberIs cells number) At Nothing (existing cells used)
-      (λ k l. ap (λ (n : ℕ). eqb n number) (same-number h s k)))
+      (λ k l. ap (λ (n : ℕ). eqb n number) (numberAt-put-kept h s k)))
+
+  -- every row stays
+  pub grown-put-kept : row < rows cells → getD fields 0 0 ≡ numberAt cells row → (used : ℕ) → Grown cells used (putRow stride cells row fields) used
+  grown-put-kept h s used =
+      record { there = rw (rows-put stride cells row fields) (omega arith); same = λ j l. numberAt-put-kept h s j }
+
+  -- the next row
+  pub grown-put-next : Grown cells row (putRow stride cells row fields) (row + 1)
+  grown-put-next =
+      record {
+        there = rw (rows-put stride cells row fields) (existing-more cells row);
+        same = λ j l. numberAt-put-other j (λ e. omega (arith, existing-used cells row));
+      }
 
   -- a row at the next place: the lookup goes on there
   pub lookup-put-next :

@@ -37,7 +37,7 @@ add-dated-header c =
     let s = c .before .before .before .before .before .before .before .before .before .before .before .before .before .before .before .before .before .before .before .before in
     let go = rw (c .before .before .before .before .before .before .before .before .before .before .before .before .row .given .1) at (c .before .before .before .before .before .before .before .before .before .before .before .before .before .before .judge-collect .ensures [] [] [] []) in
     let room : s .args .header .collections < rows (s .args .collections .now) = collect-room _ _ (s .args .p) (go .accepted) in
-    omega (arith, s .good .1 .1 .1 .1 .0 .0)
+    omega (arith, s .good .1 .1 .1 .1 .1 .1 .0 .0)
 
 dated-header-requires : tie.Need-dated-header-requires
 dated-header-requires c κs = search needs

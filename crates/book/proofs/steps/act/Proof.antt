@@ -4,7 +4,9 @@ use Rattle.book.proofs.steps.act.Statement.{statement}
 use Rattle.book.proofs.steps.act.Tie as tie
 
 record-event-requires : tie.Need-record-event-requires
-record-event-requires c κs = admitted-recorded _ _ (c .before .before .before .before .before .before .before .before .pre) (c .before .before .before .if1 .taken)
+record-event-requires c κs =
+    let pre = c .before .before .before .before .before .before .before .before .pre in
+    (admitted-recorded _ _ (pre .0) (c .before .before .before .if1 .taken), pre .1)
 
 same-length : tie.Need-same-length
 same-length c = search needs
@@ -24,7 +26,9 @@ treatment-of-requires : tie.Need-treatment-of-requires
 treatment-of-requires c κs = search needs
 
 treat-requires : tie.Need-treat-requires
-treat-requires c κs = admitted-ready _ _ (c .before .before .before .before .before .before .before .before .before .before .pre) _ (c .before .before .before .before .treatment-of .ensures)
+treat-requires c κs =
+    let pre = c .before .before .before .before .before .before .before .before .before .before .pre in
+    (admitted-ready _ _ (pre .0) _ (c .before .before .before .before .treatment-of .ensures), pre .1 .collection)
 
 same-length-4 : tie.Need-same-length-4
 same-length-4 c = search needs

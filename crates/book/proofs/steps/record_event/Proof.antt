@@ -1,18 +1,16 @@
-use mathlib.Core.Path.{_≡_}
-use Rattle.book.proofs.Laws.Events.{action-creditor, action-mandate, action-amend, action-cancel, action-collect}
-use native.Mathlib.Omega.{arith}
+use Rattle.book.proofs.Laws.Events.{action-creditor, action-mandate, action-amend, action-cancel, action-collect, mandate-start, collect-starts, collect-dates, recorded-collect}
 use borrow.Author.Needs.{needs}
 use Rattle.book.proofs.steps.record_event.Statement.{statement}
 use Rattle.book.proofs.steps.record_event.Tie as tie
 
 add-creditor-requires : tie.Need-add-creditor-requires
-add-creditor-requires c κs = c .before .before .before .before .before .pre .creditor (c .before .match .keys1)
+add-creditor-requires c κs = c .before .before .before .before .before .pre .0 .creditor (c .before .match .keys1)
 
 new-mandate-requires : tie.Need-new-mandate-requires
 new-mandate-requires c κs = search needs
 
 add-mandate-requires : tie.Need-add-mandate-requires
-add-mandate-requires c κs = search needs
+add-mandate-requires c κs = mandate-start _ _ _ _ _ (c .before .before .new-mandate .ensures) (c .before .before .before .before .before .before .before .pre .1 .mandate)
 
 amendment-requires : tie.Need-amendment-requires
 amendment-requires c κs = search needs
@@ -27,7 +25,12 @@ presentation-of-requires : tie.Need-presentation-of-requires
 presentation-of-requires c κs = search needs
 
 collect-requires : tie.Need-collect-requires
-collect-requires c κs = search needs
+collect-requires c κs =
+    let s = c .before .before .before .before .before .before .before .before in
+    let other = c .before .before .before .before .match .rest in
+    let five = recorded-collect (s .args .e) (s .pre .0) (other .0 .0 .0 .1) (other .0 .0 .1) (other .0 .1) (other .1) in
+    let made = c .before .before .before .presentation-of .ensures in
+    (collect-dates _ (s .args .e) made (s .pre .0 .collect five), collect-starts _ _ _ _ _ _ _ _ made (s .pre .1))
 
 same-length : tie.Need-same-length
 same-length c = search needs
@@ -76,7 +79,7 @@ returns-5 c =
     λ cp dp bp.
     let s = c .before .before .before .before .before .before .before .before .before .before .before .before .before in
     let other = c .before .before .before .before .before .before .before .before .before .match .rest in
-    let five : s .args .e .kind ≡ 5 = omega (arith, s .pre .from, s .pre .to, other .1, other .0 .1, other .0 .0 .1, other .0 .0 .0 .1) in
+    let five = recorded-collect (s .args .e) (s .pre .0) (other .0 .0 .0 .1) (other .0 .0 .1) (other .0 .1) (other .1) in
     rw (action-collect (s .args .e) _ (c .before .before .before .before .before .before .before .before .presentation-of .ensures) five) (c .before .before .before .before .collect .ensures cp dp bp)
 
 pub record-event-spec : {M : Type 1} → statement M

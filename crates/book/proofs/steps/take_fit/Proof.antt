@@ -1,6 +1,7 @@
 -- `take_fit` meets its contract: refusals 3 to 5 first, then what `act` did.
 -- Assumes nothing.
 use Rattle.book.proofs.Laws.Events.{taken-refused, taken-done}
+use Rattle.tables.proofs.Laws.Lookup.{lookup-since-first}
 use mathlib.Core.Path.{sym, _∙_}
 use borrow.Author.Needs.{needs}
 use Rattle.book.proofs.steps.take_fit.Statement.{statement}
@@ -16,7 +17,10 @@ enum-told : tie.Need-enum-told
 enum-told c = search needs
 
 act-requires : tie.Need-act-requires
-act-requires c κs = record { is-fit = c .before .before .before .before .before .before .before .before .before .before .before .before .pre; is-within = sym (c .before .before .before .before .before .before .before .before .check .ensures) ∙ c .before .before .before .before .before .before .enum-told .given .1 }
+act-requires c κs = (
+  record { is-fit = c .before .before .before .before .before .before .before .before .before .before .before .before .pre; is-within = sym (c .before .before .before .before .before .before .before .before .check .ensures) ∙ c .before .before .before .before .before .before .enum-told .given .1 },
+  record { mandate = lookup-since-first _ _ _; collection = lookup-since-first _ _ _ },
+)
 
 returns : tie.Need-returns
 returns c = taken-refused _ _ _ _ (c .before .before .before .before .before .before .before .pre) (sym (c .before .before .before .check .ensures) ∙ c .before .r .given .1)

@@ -21,8 +21,8 @@ answer-number-requires c κs = search needs
 answer-line-requires : tie.Need-answer-line-requires
 answer-line-requires c κs = search needs
 
-add-t34 : tie.Need-add-t34
-add-t34 c = omega (arith, c .before .before .before .before .before .before .before .before .before .before .before .before .before .before .before .before .before .before .before .before .before .before .before .before .before .before .before .before .before .before .before .pre .room, c .before .before .before .before .before .before .before .before .before .before .before .before .before .before .before .before .before .before .before .before .before .before .before .before .before .before .before .before .before .before .before .good)
+add-t36 : tie.Need-add-t36
+add-t36 c = omega (arith, c .before .before .before .before .before .before .before .before .before .before .before .before .before .before .before .before .before .before .before .before .before .before .before .before .before .before .before .before .before .before .before .pre .room, c .before .before .before .before .before .before .before .before .before .before .before .before .before .before .before .before .before .before .before .before .before .before .before .before .before .before .before .before .before .before .before .good)
 
 same-length : tie.Need-same-length
 same-length c = search needs
@@ -57,7 +57,7 @@ end-line-spec =
     take-line-requires
     answer-number-requires
     answer-line-requires
-    add-t34
+    add-t36
     same-length
     same-length-2
     same-length-3

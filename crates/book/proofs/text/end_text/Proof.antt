@@ -22,7 +22,7 @@ slice-aggregate-end-line : tie.Need-slice-aggregate-end-line
 slice-aggregate-end-line c = end-count (c .before .before .before .before .before .before .before .before .before .args .filled) (c .before .before .before .before .before .before .before .before .before .args .text .now) (c .before .before .before .before .before .before .before .before .before .args .out .now) (sym (c .before .before .before .end-fits .ensures) ∙ not-false (c .before .before .if1 .left))
 
 end-line-requires : tie.Need-end-line-requires
-end-line-requires c κs = record { tested = λ i. absurd (never i refl); room = end-room (c .before .before .before .before .before .before .before .before .before .before .before .before .before .before .before .before .args .filled) (c .before .before .before .before .before .before .before .before .before .before .before .before .before .before .before .before .args .text .now) (c .before .before .before .before .before .before .before .before .before .before .before .before .before .before .before .before .args .out .now) (sym (c .before .before .before .before .before .before .before .before .before .before .end-fits .ensures) ∙ not-false (c .before .before .before .before .before .before .before .before .before .if1 .left)) }
+end-line-requires c κs = record { tested = λ i. absurd (never i refl); room = end-room (c .before .before .before .before .before .before .before .before .before .before .before .before .before .before .before .before .before .before .args .filled) (c .before .before .before .before .before .before .before .before .before .before .before .before .before .before .before .before .before .before .args .text .now) (c .before .before .before .before .before .before .before .before .before .before .before .before .before .before .before .before .before .before .args .out .now) (sym (c .before .before .before .before .before .before .before .before .before .before .before .before .end-fits .ensures) ∙ not-false (c .before .before .before .before .before .before .before .before .before .before .before .if1 .left)) }
 
 same-length : tie.Need-same-length
 same-length c = search needs
@@ -46,7 +46,7 @@ same-length-7 : tie.Need-same-length-7
 same-length-7 c = search needs
 
 returns-3 : tie.Need-returns-3
-returns-3 c = end-told _ _ _ _ _ _ _ _ _ _ (sym (c .before .before .before .before .before .before .before .before .before .before .before .before .before .before .before .before .before .before .before .before .before .before .before .end-fits .ensures) ∙ not-false (c .before .before .before .before .before .before .before .before .before .before .before .before .before .before .before .before .before .before .before .before .before .before .if1 .left)) (c .before .before .before .before .before .before .before .before .before .before .before .before .before .before .before .before .before .before .before .before .before .if2 .left) refl refl (c .before .before .before .before .before .before .before .before .before .before .before .before .end-line .ensures)
+returns-3 c = end-told _ _ _ _ _ _ _ _ _ _ (sym (c .before .before .before .before .before .before .before .before .before .before .before .before .before .before .before .before .before .before .before .before .before .before .before .before .before .end-fits .ensures) ∙ not-false (c .before .before .before .before .before .before .before .before .before .before .before .before .before .before .before .before .before .before .before .before .before .before .before .before .if1 .left)) (c .before .before .before .before .before .before .before .before .before .before .before .before .before .before .before .before .before .before .before .before .before .before .before .if2 .left) refl refl (c .before .before .before .before .before .before .before .before .before .before .before .before .end-line .ensures)
 
 pub end-text-spec : {M : Type 1} → statement M
 end-text-spec =

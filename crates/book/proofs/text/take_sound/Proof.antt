@@ -5,8 +5,22 @@ use borrow.Author.Needs.{needs}
 use Rattle.book.proofs.text.take_sound.Statement.{statement}
 use Rattle.book.proofs.text.take_sound.Tie as tie
 
+start-requires : tie.Need-start-requires
+start-requires c κs = search needs
+
+start-requires-2 : tie.Need-start-requires-2
+start-requires-2 c κs = search needs
+
 act-requires : tie.Need-act-requires
-act-requires c κs = record { is-fit = c .before .before .before .before .before .before .before .before .before .before .pre .tested (c .before .before .before .before .before .before .if1 .taken) .fits; is-within = c .before .before .before .before .before .before .before .before .before .before .pre .is-within }
+act-requires c κs =
+    let pre = c .before .before .before .before .before .before .before .before .before .before .before .before .before .before .before .before .pre in
+    let known = pre .tested (c .before .before .before .before .before .before .before .before .before .before .before .before .if1 .taken) in (
+      record { is-fit = known .safe .fits; is-within = pre .is-within },
+      record {
+        mandate = c .before .before .before .before .before .before .before .before .before .start .ensures _ (known .mandates);
+        collection = c .before .before .before .before .before .before .start2 .ensures _ (known .collections);
+      },
+    )
 
 same-length : tie.Need-same-length
 same-length c = search needs
@@ -27,7 +41,9 @@ same-length-6 : tie.Need-same-length-6
 same-length-6 c = search needs
 
 returns : tie.Need-returns
-returns c = taken-done _ _ _ _ (c .before .before .before .before .before .before .before .before .before .before .before .before .before .before .before .before .before .before .before .before .pre .tested (c .before .before .before .before .before .before .before .before .before .before .before .before .before .before .before .before .if1 .taken) .fits) (c .before .before .before .before .before .before .before .before .before .before .before .before .before .before .before .before .before .before .before .before .pre .is-within) (c .before .before .before .before .before .before .before .before .before .act .ensures)
+returns c =
+    let pre = c .before .before .before .before .before .before .before .before .before .before .before .before .before .before .before .before .before .before .before .before .before .before .before .before .before .before .pre in
+    taken-done _ _ _ _ (pre .tested (c .before .before .before .before .before .before .before .before .before .before .before .before .before .before .before .before .before .before .before .before .before .before .if1 .taken) .safe .fits) (pre .is-within) (c .before .before .before .before .before .before .before .before .before .act .ensures)
 
 take-event-requires : tie.Need-take-event-requires
 take-event-requires c κs = search needs
@@ -57,6 +73,8 @@ pub take-sound-spec : {M : Type 1} → statement M
 take-sound-spec =
     tie.close
     (tie.spec
+    start-requires
+    start-requires-2
     act-requires
     same-length
     same-length-2

@@ -29,7 +29,7 @@ write-requires : tie.Need-write-requires
 write-requires c κs =
     verdict-postable
     _
-    (c .before .before .before .before .before .before .before .before .before .before .pre)
+    (c .before .before .before .before .before .before .before .before .before .before .pre .0)
     (sym (c .before .before .before .before .before .before .before .judge .ensures) ∙ c .before .before .before .before .before .row2 .given .1)
 
 same-length : tie.Need-same-length

@@ -36,7 +36,7 @@ collection-at-requires c κs = search needs
 row-verdict-requires : tie.Need-row-verdict-requires
 row-verdict-requires c κs =
     rw (c .collection-at .ensures)
-    (found-ready _ (c .before .before .before .before .before .before .before .before .before .before .pre) (c .before .before .before .before .before .before .before .if1 .left)
+    (found-ready _ (c .before .before .before .before .before .before .before .before .before .before .pre .0) (c .before .before .before .before .before .before .before .if1 .left)
     (sym (c .before .before .before .before .find .ensures) ∙ c .before .before .row .given .1))
 
 enum-told : tie.Need-enum-told

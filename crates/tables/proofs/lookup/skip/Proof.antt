@@ -1,11 +1,10 @@
--- `tables::lookup::skip` meets its contract. The loop: the walk from row i on has the answer of the whole walk.
+-- `tables::lookup::skip` meets its contract. The loop: the walk from row i on has the answer of the walk from the first row on.
 -- Assumes nothing.
 use Rattle.tables.proofs.Laws.Lookup.{walk-past-eight}
 use Rattle.tables.specs.Lookup.{numberIs}
 use Rattle.tables.specs.declared.Found.the-variants.{At, Nothing}
-use Rattle.common.proofs.Walk.{all-left}
 use Rattle.common.specs.Walk.{firstFrom}
-use mathlib.Core.Path.{_≡_, sym, _∙_}
+use mathlib.Core.Path.{_≡_, refl, sym, _∙_}
 use native.Mathlib.Omega.{arith}
 use Prim.Native.Nat.{_≤_, _-_}
 use borrow.Author.Needs.{needs}
@@ -13,13 +12,13 @@ use Rattle.tables.proofs.lookup.skip.Statement.{statement}
 use Rattle.tables.proofs.lookup.skip.Tie as tie
 
 abbrev Inv-loop : tie.InvT-loop
-Inv-loop cells n number i₀ i = (i ≤ n) × (firstFrom (numberIs cells number) At Nothing i (n - i) ≡ firstFrom (numberIs cells number) At Nothing 0 n)
+Inv-loop cells from n number i₀ i = (i ≤ n) × (firstFrom (numberIs cells number) At Nothing i (n - i) ≡ firstFrom (numberIs cells number) At Nothing from (n - from))
 
 abbrev μ-loop : tie.MeasureT-loop
-μ-loop cells n number i₀ i = n - i
+μ-loop cells from n number i₀ i = n - i
 
 loop-holds : tie.Need-loop-holds Inv-loop μ-loop
-loop-holds c = (search needs, rw (all-left (c .before .args .n)))
+loop-holds c = (search needs, refl)
 
 sub-loop : tie.Need-sub-loop Inv-loop μ-loop
 sub-loop c = search needs

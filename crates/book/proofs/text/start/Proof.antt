@@ -1,0 +1,18 @@
+-- `start` meets its contract: the index gives a row to start from, and so is the first row. Assumes nothing.
+use Rattle.tables.proofs.Laws.Lookup.{lookup-since-first}
+use Rattle.index.proofs.Laws.Following.{index-holds}
+use borrow.Author.Needs.{needs}
+use Rattle.book.proofs.text.start.Statement.{statement}
+use Rattle.book.proofs.text.start.Tie as tie
+
+first-row-requires : tie.Need-first-row-requires
+first-row-requires c κs = search needs
+
+returns : tie.Need-returns
+returns c used d = rw (c .first-row .ensures) (index-holds _ _ used _ d)
+
+returns-2 : tie.Need-returns-2
+returns-2 c used d = lookup-since-first _ used _
+
+pub start-spec : {M : Type 1} → statement M
+start-spec = tie.close (tie.spec first-row-requires returns returns-2)
