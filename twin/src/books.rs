@@ -5,8 +5,8 @@ use crate::calendar::{civil, day_in_range, lapse_limit, Calendar, Day, FIRST_DAT
 /// Kind, date, mandate, a, b, c, amount, second date, code.
 pub type Fields = [i64; 9];
 
-const MANDATE_ROWS: usize = 128;
-const COLLECTION_ROWS: usize = 256;
+pub const MANDATE_ROWS: usize = 128;
+pub const COLLECTION_ROWS: usize = 256;
 
 pub struct Mandate {
     pub number: i64,
@@ -38,7 +38,7 @@ pub struct Books {
     pub calendar: Calendar,
     pub first_day: Day,
     pub last_day: Day,
-    latest: Day,
+    pub latest: Day,
     pub creditors: Vec<i64>,
     pub mandates: Vec<Mandate>,
     pub collections: Vec<Collection>,

@@ -87,6 +87,7 @@ fn is_weekend(day: Day) -> bool {
 
 /// All business days of the years worked with, in order, and for each day how
 /// many of them there are up to and including it.
+#[derive(Clone)]
 pub struct Calendar {
     first: Day,
     business_days: Vec<Day>,

@@ -3,17 +3,22 @@
 //! It keeps books of what it has sent, so that most events make sense, plans
 //! settles, undoings and collects around each edge of document 01's rules, and
 //! mixes in events to be refused and broken lines. The profile `days` is the
-//! same for every seed: it asks of each day in range whether it is open.
+//! same for every seed: it asks of each day in range whether it is open. The
+//! profiles `calendar` and `worst` are made in modules of their own.
 
 mod books;
 mod calendar;
 mod lines;
+mod lookups;
 mod random;
+mod seasons;
 
 use books::{Books, Fields, Limits, State};
 use calendar::{civil, day_in_range, day_number, easter, lapse_limit, months_after, Day};
 use lines::{break_line, write_line};
+use lookups::Lookups;
 use random::Random;
+use seasons::Seasons;
 use std::collections::BTreeMap;
 use std::env::args;
 use std::io::{self, BufWriter, Write};
@@ -95,7 +100,9 @@ fn main() {
     };
     let output = BufWriter::with_capacity(1 << 16, io::stdout().lock());
     let written = match name.as_str() {
-        "days" => write_days(lines, output),
+        "days" => write_all(days(), lines, output),
+        "calendar" => write_all(Seasons::new(seed, lines), lines, output),
+        "worst" => write_all(Lookups::new(seed), lines, output),
         _ => write_events(seed, lines, name, output),
     };
     if let Err(error) = written {
@@ -106,12 +113,20 @@ fn main() {
 
 /// Settles of an unknown collection on every day in range, and on numbers
 /// between the days.
-fn write_days(lines: usize, mut output: impl Write) -> io::Result<()> {
+fn days() -> impl Iterator<Item = Fields> {
     let dates = (2010..=2189).flat_map(|year| {
         (0..=13).flat_map(move |month| (0..=32).map(move |day| year * 10000 + month * 100 + day))
     });
-    for date in dates.take(lines) {
-        output.write_all(&write_line(&[6, date, 0, 1, 0, 0, 0, 0, 0]))?;
+    dates.map(|date| [6, date, 0, 1, 0, 0, 0, 0, 0])
+}
+
+fn write_all(
+    events: impl Iterator<Item = Fields>,
+    lines: usize,
+    mut output: impl Write,
+) -> io::Result<()> {
+    for event in events.take(lines) {
+        output.write_all(&write_line(&event))?;
     }
     output.flush()
 }
@@ -128,7 +143,7 @@ fn write_events(seed: u64, lines: usize, name: &str, output: impl Write) -> io::
 }
 
 fn usage() -> ! {
-    eprintln!("usage: generate SEED LINES mixed|accepted|refused|broken|edges|days");
+    eprintln!("usage: generate SEED LINES mixed|accepted|refused|broken|edges|calendar|worst|days");
     exit(2)
 }
 

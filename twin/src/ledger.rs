@@ -1,14 +1,8 @@
-//! The program `ledger` of document 01, written a second time from the papers
-//! alone, to be compared with the proved one.
+//! The text line, the events and their rules, from document 01.
 
-mod calendar;
-#[cfg(test)]
-mod tests;
-
-use calendar::{day_in_range, lapse_limit, Calendar, Day};
-use std::collections::HashMap;
-use std::hash::{BuildHasherDefault, Hasher};
-use std::io::{self, BufRead, BufReader, BufWriter, ErrorKind, Write};
+use crate::calendar::{day_in_range, lapse_limit, Calendar, Day};
+use crate::rows::Table;
+use std::io::{self, BufRead, ErrorKind, Write};
 
 const CREDITORS: i64 = 256;
 const DEBTORS: i64 = 4096;
@@ -17,11 +11,8 @@ const LARGEST_NUMBER: i64 = 999_999_999;
 const LARGEST_AMOUNT: i64 = 99_999_999_999;
 const LARGEST_RATE: i64 = 9_999;
 
-const MANDATE_ROWS: usize = 128;
-const COLLECTION_ROWS: usize = 256;
 const MOST_LINES: u32 = 999_999;
 const COLUMNS: usize = 74;
-const BUFFER: usize = 1 << 16;
 
 // The refusal numbers of document 01; 2 cannot occur in the program.
 const NOT_A_LINE: u8 = 1;
@@ -300,6 +291,7 @@ struct Mandate {
     last_presented: Option<Day>,
 }
 
+#[derive(Clone)]
 struct Collection {
     creditor: usize,
     debtor: usize,
@@ -318,57 +310,10 @@ enum State {
     Undone,
 }
 
-/// Rows found by number; at most `lent` of them, none ever removed.
-struct Table<Row> {
-    lent: usize,
-    rows: HashMap<u32, Row, BuildHasherDefault<NumberHasher>>,
-}
-
-impl<Row> Table<Row> {
-    fn new(lent: usize) -> Table<Row> {
-        Table {
-            lent,
-            rows: HashMap::with_capacity_and_hasher(lent, Default::default()),
-        }
-    }
-
-    fn has(&self, number: u32) -> bool {
-        self.rows.contains_key(&number)
-    }
-
-    fn is_full(&self) -> bool {
-        self.rows.len() == self.lent
-    }
-
-    fn get(&mut self, number: u32) -> Result<&mut Row, u8> {
-        self.rows.get_mut(&number).ok_or(MISSING)
-    }
-}
-
-/// Spreads row numbers by one multiplication; enough for tables this small.
-#[derive(Default)]
-struct NumberHasher(u64);
-
-impl Hasher for NumberHasher {
-    fn write(&mut self, bytes: &[u8]) {
-        for &byte in bytes {
-            self.write_u32(u32::from(byte));
-        }
-    }
-
-    fn write_u32(&mut self, number: u32) {
-        let product = (self.0 ^ u64::from(number)).wrapping_mul(0x9E37_79B9_7F4A_7C15);
-        self.0 = product ^ (product >> 32);
-    }
-
-    fn finish(&self) -> u64 {
-        self.0
-    }
-}
-
 // ---- The ledger ----
 
-struct Ledger {
+#[derive(Clone)]
+pub struct Ledger {
     calendar: Calendar,
     /// The day of the last accepted event.
     latest: Option<Day>,
@@ -383,13 +328,13 @@ struct Ledger {
 }
 
 impl Ledger {
-    fn new() -> Ledger {
+    pub fn new(mandate_rows: usize, collection_rows: usize) -> Ledger {
         Ledger {
             calendar: Calendar::new(),
             latest: None,
             creditor_banks: vec![None; CREDITORS as usize + 1],
-            mandates: Table::new(MANDATE_ROWS),
-            collections: Table::new(COLLECTION_ROWS),
+            mandates: Table::new(mandate_rows),
+            collections: Table::new(collection_rows),
             creditors: vec![0; CREDITORS as usize + 1],
             debtors: vec![0; DEBTORS as usize + 1],
             banks: vec![0; BANKS as usize + 1],
@@ -398,7 +343,7 @@ impl Ledger {
     }
 
     /// The answer to a line without its byte 10.
-    fn take_line(&mut self, line: &[u8]) -> Answer {
+    pub fn take_line(&mut self, line: &[u8]) -> Answer {
         let fields = read_line(line).ok_or(NOT_A_LINE)?;
         let (day, event) = read_event(&fields)?;
         require(self.latest <= Some(day), BEFORE_LATEST)?;
@@ -451,7 +396,7 @@ impl Ledger {
             Event::Collect(collect) => self.collect(day, &collect),
             Event::Settle { collection } => self.settle(day, collection),
             Event::Reject { collection } => {
-                let collection = self.collections.get(collection)?;
+                let collection = self.collections.get(collection).ok_or(MISSING)?;
                 require(collection.state == State::Presented, WRONG_STATE)?;
                 collection.state = State::Rejected;
                 Ok(())
@@ -474,12 +419,12 @@ impl Ledger {
         require(!self.mandates.has(mandate), EXISTS)?;
         require(self.creditor_banks[row.creditor].is_some(), MISSING)?;
         require(!self.mandates.is_full(), NO_ROW)?;
-        self.mandates.rows.insert(mandate, row);
+        self.mandates.add(mandate, row);
         Ok(())
     }
 
     fn live_mandate(&mut self, mandate: u32) -> Result<&mut Mandate, u8> {
-        let mandate = self.mandates.get(mandate)?;
+        let mandate = self.mandates.get(mandate).ok_or(MISSING)?;
         require(mandate.live, MANDATE_ENDED)?;
         Ok(mandate)
     }
@@ -508,7 +453,7 @@ impl Ledger {
             kept_due,
             state: State::Presented,
         };
-        self.collections.rows.insert(collect.collection, row);
+        self.collections.add(collect.collection, row);
 
         let mandate = self.live_mandate(collect.mandate)?;
         mandate.last_presented = Some(kept_due);
@@ -522,7 +467,7 @@ impl Ledger {
 
     fn settle(&mut self, day: Day, collection: u32) -> Answer {
         require(self.calendar.is_business_day(day), CLOSED_DAY)?;
-        let collection = self.collections.get(collection)?;
+        let collection = self.collections.get(collection).ok_or(MISSING)?;
         require(collection.state == State::Presented, WRONG_STATE)?;
         require(day >= collection.kept_due, BEFORE_DUE)?;
 
@@ -537,7 +482,7 @@ impl Ledger {
 
     fn undo(&mut self, day: Day, collection: u32, undoing: Undoing) -> Answer {
         require(self.calendar.is_business_day(day), CLOSED_DAY)?;
-        let collection = self.collections.get(collection)?;
+        let collection = self.collections.get(collection).ok_or(MISSING)?;
         let State::Settled(settled) = collection.state else {
             return Err(WRONG_STATE);
         };
@@ -559,7 +504,7 @@ impl Ledger {
     }
 
     /// Each non-zero position, then total compensation.
-    fn write_positions(&self, output: &mut impl Write) -> io::Result<()> {
+    pub fn write_positions(&self, output: &mut impl Write) -> io::Result<()> {
         let kinds = [&self.creditors, &self.debtors, &self.banks];
         for (kind, positions) in (1..).zip(kinds) {
             for (number, cents) in positions.iter().enumerate() {
@@ -597,23 +542,20 @@ fn last_day(calendar: &Calendar, settled: Day, undoing: Undoing) -> Day {
 
 /// Amount times rate times days over 3,600,000, a half cent going up. The
 /// longest time, 13 months and some weeks, keeps the product below 10^18.
-fn compensation(amount: i64, rate: i64, days: i32) -> i64 {
+pub fn compensation(amount: i64, rate: i64, days: i32) -> i64 {
     (amount * rate * i64::from(days) + 1_800_000) / 3_600_000
 }
 
-// ---- The program ----
+// ---- A text of lines ----
 
-fn main() {
-    let input = BufReader::with_capacity(BUFFER, io::stdin().lock());
-    let output = BufWriter::with_capacity(BUFFER, io::stdout().lock());
-    // The program says nothing of a reader that closes its end.
-    let _ = run(input, output);
-}
-
-/// Answers at most 999,999 lines, then writes the positions.
-fn run(mut input: impl BufRead, output: impl Write) -> io::Result<()> {
+/// Answers at most 999,999 lines.
+pub fn answer_lines<Output: Write>(
+    ledger: &mut Ledger,
+    mut input: impl BufRead,
+    output: &mut Output,
+) -> io::Result<()> {
     let mut answers = Answers {
-        ledger: Ledger::new(),
+        ledger,
         lines: 0,
         output,
     };
@@ -630,26 +572,11 @@ fn run(mut input: impl BufRead, output: impl Write) -> io::Result<()> {
             }
             break;
         }
-        let mut rest = chunk;
-        while answers.lines < MOST_LINES {
-            let Some(end) = line_end(rest) else {
-                extend(&mut piece, rest);
-                break;
-            };
-            if piece.is_empty() {
-                answers.line(&rest[..end])?;
-            } else {
-                extend(&mut piece, &rest[..end]);
-                answers.line(&piece)?;
-                piece.clear();
-            }
-            rest = &rest[end + 1..];
-        }
+        answers.chunk(chunk, &mut piece)?;
         let read = chunk.len();
         input.consume(read);
     }
-    answers.ledger.write_positions(&mut answers.output)?;
-    answers.output.flush()
+    Ok(())
 }
 
 /// The place of the first byte 10; most lines have it in the same place.
@@ -666,13 +593,33 @@ fn extend(piece: &mut Vec<u8>, bytes: &[u8]) {
     piece.extend_from_slice(&bytes[..room.min(bytes.len())]);
 }
 
-struct Answers<Output> {
-    ledger: Ledger,
+struct Answers<'run, Output> {
+    ledger: &'run mut Ledger,
     lines: u32,
-    output: Output,
+    output: &'run mut Output,
 }
 
-impl<Output: Write> Answers<Output> {
+impl<Output: Write> Answers<'_, Output> {
+    /// Answers the lines that end in the chunk, and keeps the rest of it.
+    fn chunk(&mut self, chunk: &[u8], piece: &mut Vec<u8>) -> io::Result<()> {
+        let mut rest = chunk;
+        while self.lines < MOST_LINES {
+            let Some(end) = line_end(rest) else {
+                extend(piece, rest);
+                break;
+            };
+            if piece.is_empty() {
+                self.line(&rest[..end])?;
+            } else {
+                extend(piece, &rest[..end]);
+                self.line(piece)?;
+                piece.clear();
+            }
+            rest = &rest[end + 1..];
+        }
+        Ok(())
+    }
+
     fn line(&mut self, line: &[u8]) -> io::Result<()> {
         let answer = self.ledger.take_line(line);
         self.write(answer)

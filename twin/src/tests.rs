@@ -1,6 +1,7 @@
 use crate::calendar::{civil, day_in_range, day_number, easter, lapse_limit, months_after};
 use crate::calendar::{Calendar, Day};
-use crate::{compensation, run, Ledger};
+use crate::ledger::{compensation, Ledger};
+use crate::{run, COLLECTION_ROWS, MANDATE_ROWS};
 
 const EXAMPLE: &str = include_str!("../cases/example.txt");
 
@@ -29,7 +30,7 @@ fn output(input: &[u8]) -> String {
 
 /// The answers to events written as their nine numbers.
 fn answers(events: &[[i64; 9]]) -> Vec<u8> {
-    let mut ledger = Ledger::new();
+    let mut ledger = Ledger::new(MANDATE_ROWS, COLLECTION_ROWS);
     let answer = |event: &[i64; 9]| {
         let [kind, date, mandate, a, b, c, amount, second, code] = *event;
         let line =
