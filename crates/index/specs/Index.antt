@@ -24,9 +24,9 @@ slots = 4096
 abbrev pub rowLimit : ℕ
 rowLimit = collectionRowLimit
 
--- the cell behind them has the rows that are covered
+-- and behind them a cell with the rows that are covered
 abbrev pub indexLength : ℕ
-indexLength = 20481
+indexLength = slots + rowLimit + 1
 
 abbrev pub slotOf : ℕ → ℕ
 slotOf number = number % slots

@@ -13,9 +13,10 @@ const SLOTS: usize = 4096;
 const ROWS: usize = COLLECTION_ROWS;
 
 // The place of the rows that are covered.
-const COVERED: usize = 20480;
+const COVERED: usize = SLOTS + ROWS;
 
-pub const INDEX: usize = 20481;
+// The cells of an index.
+pub const INDEX: usize = COVERED + 1;
 
 fn wide(x: u16) -> usize
     ensures is { λ r. ⌜ r ≡ x ⌝ }

@@ -1,3 +1,4 @@
+-- `find` meets its contract: a lookup from a row on before which none has the number. Assumes nothing.
 use mathlib.Core.Path.{_∙_}
 use borrow.Author.Needs.{needs}
 use Rattle.book.proofs.lookups.find.Statement.{statement}
