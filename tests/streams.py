@@ -1,7 +1,7 @@
 #!/usr/bin/env python3
 """streams.py LEDGER TWIN: compares both programs on inputs that no case file should hold (the limit of lines, lines
-of megabytes, lines at every place across the end of a piece that is read), feeds the ledger byte by byte, and sees that
-it ends when nobody reads on. A difference fails."""
+of megabytes, lines at every place across the end of a piece that is read, rows looked up in later pieces than they were
+added in), feeds the ledger byte by byte, and sees that it ends when nobody reads on. A difference fails."""
 import subprocess
 import sys
 import tempfile
@@ -14,7 +14,41 @@ ANSWERS = (TOP / "crates/ledger/stdout").read_bytes()
 LINES = 999_999
 PIECE = 262_144
 
+WIDTHS = 2, 9, 10, 10, 10, 10, 12, 9, 2
+
+
+def line(*fields):
+    return "".join(str(x).rjust(w) for x, w in zip(fields, WIDTHS)).encode() + b"\n"
+
+
+def rows_of_earlier_pieces(step):
+    """Mandates and collections whose numbers are so far apart, then events on them, and on numbers that are not there,
+    each some pieces of input later. Numbers 4,096 apart have the same last bits."""
+    mandates = [7 + step * k for k in range(100)]
+    collections = [11 + step * k for k in range(100)]
+    apart = b"x" * PIECE + b"\n"
+    data = line(1, 20240325, 0, 1, 1, 0, 0, 0, 0)
+    for k, m in enumerate(mandates):
+        data += line(2, 20240325, m, 1, 1 + k, 2, 0, 20240325, 0)
+    data += apart
+    for k, c in enumerate(collections):
+        data += line(5, 20240325, mandates[k], c, 0, 0, 1000 + k, 20240328, 0)
+    data += apart
+    for m in reversed(mandates + [7 + step * 100]):
+        data += line(3, 20240326, m, 0, 0, 3, 0, 0, 0)
+        data += line(2, 20240326, m, 1, 9, 4, 0, 20240325, 0)
+    for k, c in enumerate(collections + [11 + step * 100]):
+        data += line(7 if k % 3 else 6, 20240328, 0, c, 0, 0, 0, 0, 0)
+    data += apart
+    for k, c in enumerate(collections):
+        data += line(8 + k % 3, 20240402, 0, c, 360 if k % 3 == 1 else 0, 0, 0, 0, 0)
+    return data + b"".join(line(4, 20240402, m, 0, 0, 0, 0, 0, 0) for m in mandates[::2] + mandates)
+
+
 STREAMS = {
+    "rows of earlier pieces, with the same last bits": rows_of_earlier_pieces(4096),
+    "rows of earlier pieces, one after the other": rows_of_earlier_pieces(1),
+    "rows of earlier pieces, far apart": rows_of_earlier_pieces(1_234_577),
     "lines past the limit": b"\n" * (LINES + 10),
     "an unended piece as the last line": b"\n" * (LINES - 1) + b"abc",
     "an unended piece past the limit": b"\n" * LINES + b"abc",
