@@ -5,17 +5,14 @@ use borrow.Author.Needs.{needs}
 use Rattle.ledger.proofs.tell.Statement.{statement}
 use Rattle.ledger.proofs.tell.Tie as tie
 
-returns : tie.Need-returns
-returns c = search needs
-
 slice-aggregate-write-all : tie.Need-slice-aggregate-write-all
-slice-aggregate-write-all c = sym (length-take-le (c .before .before .before .args .bytes) (c .before .before .before .args .out .now) (c .before .if1 .left))
+slice-aggregate-write-all c = sym (length-take-le (c .before .before .args .bytes) (c .before .before .args .out .now) (c .before .before .pre))
 
 write-all-requires : tie.Need-write-all-requires
 write-all-requires c κs = search needs
 
-returns-2 : tie.Need-returns-2
-returns-2 c = search needs
+returns : tie.Need-returns
+returns c = search needs
 
 pub tell-spec : {M : Type 1} → statement M
-tell-spec = tie.close (tie.spec returns slice-aggregate-write-all write-all-requires returns-2)
+tell-spec = tie.close (tie.spec slice-aggregate-write-all write-all-requires returns)

@@ -1,0 +1,1 @@
+pub mod Input  -- a read, a turn, the whole input

@@ -1,0 +1,1 @@
+pub mod Input  -- what the program reads, answers and hands on
