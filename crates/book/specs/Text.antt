@@ -1,4 +1,4 @@
--- A text of events: the calls for a piece of the program's input and for its end, against the run of report's specs/Run.
+-- A text of events: the call for a piece of the program's input, against the run of report's specs/Run.
 -- Assumes nothing.
 use mathlib.Core.Path.{_≡_}
 use mathlib.Core.Bool.{Bool, true, cond, _&&_}
@@ -18,7 +18,7 @@ use Rattle.model.specs.declared.Answer.the-variants.{Accepted, Refused}
 use Rattle.index.specs.Index.{Indexed}
 use Rattle.model.proofs.Laws.Invariant.{Safe}
 use Rattle.report.specs.Layout.{answerLength}
-use Rattle.report.specs.Run.{Run, runAt, kept, answerTo, afterLine, ended, toldEnded, takeText, toldText, endText, toldEnd}
+use Rattle.report.specs.Run.{Run, runAt, kept, answerTo, afterLine, ended, toldEnded, takeText, toldText}
 use Rattle.book.specs.declared.Outcome.{Outcome}
 use Rattle.book.specs.declared.text.Progress.{Progress}
 use Rattle.book.specs.declared.text.Lines.{Lines}
@@ -69,7 +69,7 @@ pub record LinesTold (s : Run) (text out : List ℕ) (r : Lines) (l' : Ledger) (
   pub told : r .told ≡ length (toldText s text)
   pub inside : r .at ≤ length text
 
--- ---- the calls
+-- ---- the call
 
 -- refusal 2, or none
 abbrev pub fitAnswer : Bool → Answer
@@ -104,11 +104,3 @@ textAfter fits s text = cond fits (pasted 0 (s .begun) text) text
 pub record PieceTaken (l : Ledger) (lines filled : ℕ) (text out : List ℕ) (r : Piece) (l' : Ledger) (text' out' : List ℕ) : Type 0 where
   pub told : Told (pieceFits filled text out) l lines filled out (pieceRun l lines filled text) (pieceTold l lines filled text) r l' out'
   pub text-is : text' ≡ textAfter (pieceFits filled text out) (pieceRun l lines filled text) text
-
--- the end of the input, with the bytes of a line that has begun
-abbrev pub endFits : ℕ → List ℕ → List ℕ → Bool
-endFits filled text out = leb filled (length text) && leb answerLength (length out)
-
-abbrev pub EndTaken : Ledger → ℕ → ℕ → List ℕ → List ℕ → Piece → Ledger → List ℕ → Type 0
-EndTaken l lines filled text out r l' out' =
-    Told (endFits filled text out) l lines filled out (endText (runAt l lines (take filled text))) (toldEnd (runAt l lines (take filled text))) r l' out'

@@ -1,17 +1,20 @@
 // The program `ledger` of document 01, "The text line": events from standard input, one a line; to standard output an
 // answer for each line, then the positions and the total compensation. It reads and writes; what the bytes mean, what is
 // answered to them and how that is written is in the libraries, proved.
+ghost use mathlib.Core.Path.{_≡_};
+ghost use mathlib.Core.Bool.{true, false};
 ghost use mathlib.Core.List.{[]};
 ghost use Prim.Native.Nat.{_*_, _≤_};
 ghost use lib.ListN.{length};
 ghost use Rattle.tables.specs.Ledger.{ledger};
 ghost use Rattle.report.specs.Layout.{answerLength};
-ghost use Rattle.report.specs.Run.{runAt};
+ghost use Rattle.report.specs.Run.{runAt, toldPositions, listed};
 ghost use Rattle.ledger.specs.Input.{Behind, Given, Turned, Taken};
-use book::text::end_text;
+ghost use Rattle.ledger.specs.Program.{Begins, Roomy, InFront, Shown};
 use book::text::take_text;
 use libc::STDIN_FILENO;
 use libc::STDOUT_FILENO;
+use report::ending::end_text;
 use report::listing::list_positions;
 use tables::Header;
 use tables::OpenAnswer;
@@ -42,10 +45,14 @@ fn read_behind(text: &mut [u8], begun: usize) -> usize
     begun + io::count(got, &text[begun..])
 }
 
-// Writes the first bytes of a buffer, and says whether they found a reader.
-fn tell(out: &[u8], bytes: usize) -> bool
+// Writes the first bytes of a buffer if somebody listens, and says whether somebody still does.
+fn tell(heard: bool, out: &[u8], bytes: usize) -> bool
     requires { ⌜ bytes ≤ length (now out) ⌝ }
+    ensures { λ r. ⌜ (heard ≡ false → r ≡ false) ⌝ }
 {
+    if !heard {
+        return false;
+    }
     io::write_all(STDOUT_FILENO, &out[..bytes])
 }
 
@@ -132,56 +139,44 @@ fn take_input(
             debtor_positions,
             bank_positions,
         );
-        p.heard = tell(out, p.told);
+        p.heard = tell(p.heard, out, p.told);
         more = (begun < filled) & (p.lines < LINES);
     }
     p
 }
 
-// Answers a line that has begun where the input ends, and lists the positions.
+// Answers a line that has begun where the input ends, and lists the positions; gives the bytes of the listing.
 fn finish(
     p: Progress,
-    text: &[u8],
     out: &mut [u8],
-    mandates: &mut [u64],
-    collections: &mut [u64],
-    creditors: &mut [u64],
-    creditor_positions: &mut [i64],
-    debtor_positions: &mut [i64],
-    bank_positions: &mut [i64],
-) {
+    mandates: &[u64],
+    collections: &[u64],
+    creditors: &[u64],
+    creditor_positions: &[i64],
+    debtor_positions: &[i64],
+    bank_positions: &[i64],
+) -> usize
+    requires { ⌜ listed (ledger (p .header) (now mandates) (now collections) (now creditors) (now «creditor_positions») (now «debtor_positions») (now «bank_positions»)) (now out) ≡ true ⌝ }
+    ensures { λ r. ⌜ InFront (toldPositions (ledger (p .header) (now (mandates .entry)) (now (collections .entry)) (now (creditors .entry)) (now («creditor_positions» .entry)) (now («debtor_positions» .entry)) (now («bank_positions» .entry)))) r (now (out .exit)) ⌝ }
+{
     let header = p.header;
-    let piece = end_text(
+    let end = end_text(p.lines, p.begun, out);
+    let heard = tell(p.heard, out, end.told);
+    let listing = list_positions(
         header,
-        p.lines,
-        p.begun,
-        text,
-        out,
         mandates,
         collections,
         creditors,
         creditor_positions,
         debtor_positions,
         bank_positions,
+        out,
     );
-    let last = piece.header;
-    let told = piece.told;
-    if tell(out, told) {
-        let listing = list_positions(
-            last,
-            mandates,
-            collections,
-            creditors,
-            creditor_positions,
-            debtor_positions,
-            bank_positions,
-            out,
-        );
-        tell(out, listing.bytes);
-    }
+    tell(heard, out, listing.bytes);
+    listing.bytes
 }
 
-// The lines of the input, and then the positions, by a text and a buffer for answers.
+// The lines of the input, and then the positions, by a text and a buffer for answers; gives the bytes of the listing.
 fn run_by(
     header: Header,
     text: &mut [u8],
@@ -192,7 +187,11 @@ fn run_by(
     creditor_positions: &mut [i64],
     debtor_positions: &mut [i64],
     bank_positions: &mut [i64],
-) {
+) -> usize
+    requires { ⌜ Begins (ledger header (now mandates) (now collections) (now creditors) (now «creditor_positions») (now «debtor_positions») (now «bank_positions»)) ⌝ }
+    requires { ⌜ Roomy (now text) (now out) ⌝ }
+    ensures { λ r. ⌜ Shown (ledger header (now (mandates .entry)) (now (collections .entry)) (now (creditors .entry)) (now («creditor_positions» .entry)) (now («debtor_positions» .entry)) (now («bank_positions» .entry))) r (now (out .exit)) ⌝ }
+{
     let p = take_input(
         header,
         text,
@@ -204,12 +203,8 @@ fn run_by(
         debtor_positions,
         bank_positions,
     );
-    if !p.heard {
-        return;
-    }
     finish(
         p,
-        text,
         out,
         mandates,
         collections,
@@ -217,7 +212,7 @@ fn run_by(
         creditor_positions,
         debtor_positions,
         bank_positions,
-    );
+    )
 }
 
 // Lends the text and the buffer, which has room for an answer to each byte of the text. The text is large, since the memory
@@ -230,7 +225,9 @@ fn run(
     creditor_positions: &mut [i64],
     debtor_positions: &mut [i64],
     bank_positions: &mut [i64],
-) {
+)
+    requires { ⌜ Begins (ledger header (now mandates) (now collections) (now creditors) (now «creditor_positions») (now «debtor_positions») (now «bank_positions»)) ⌝ }
+{
     let mut text = [0u8; 262144];
     let mut out = [0u8; 2621440];
     run_by(

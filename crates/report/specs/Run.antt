@@ -7,7 +7,8 @@ use Prim.Native.Nat.{ℕ, zero, suc, _+_, _*_}
 use lib.Dec.{eqb, ltb, leb}
 use lib.IntN.{ℤ, pos, negsuc}
 use lib.ListN.{take, length}
-use Rattle.refusals.specs.declared.Refusal.the-variants.{UnfitMemory}
+use Rattle.refusals.specs.Refusals.{numberOf}
+use Rattle.refusals.specs.declared.Refusal.the-variants.{BadLine, UnfitMemory}
 use Rattle.events.specs.declared.Event.{Event}
 use Rattle.events.specs.declared.line.LineAnswer.{LineAnswer}
 use Rattle.events.specs.declared.line.LineAnswer.the-variants as lines
@@ -20,8 +21,9 @@ use Rattle.model.specs.declared.Answer.{Answer}
 use Rattle.model.specs.declared.Answer.the-variants.{Accepted, Refused}
 use Rattle.model.specs.Step.{answerNumber, answer, after, figureOf}
 use Rattle.model.specs.Journal.{Journal, figureIn}
+use Rattle.report.specs.declared.ending.Ending.{Ending}
 use Rattle.report.specs.declared.listing.Listing.{Listing}
-use Rattle.report.specs.Layout.{lastNumber, answerLine, positionLine, positionLength}
+use Rattle.report.specs.Layout.{lastNumber, answerLine, answerLength, positionLine, positionLength}
 
 -- ---- a line: what the reader refuses, or what the ledger answers to the event
 
@@ -99,12 +101,33 @@ unfoldable pub eventsText : Run → List ℕ → List Event
 eventsText r [] = []
 eventsText r (b ∷ bs) = eventsByte r b ++ eventsText (takeByte r b) bs
 
--- the end of the input ends a line that has begun
+-- ---- the end of the input: bytes of a line that has not ended are a line refused 1, one of the 999,999
+
+abbrev pub endsLine : ℕ → ℕ → Bool
+endsLine lines begun = ltb lines lastNumber && ltb 0 begun
+
+-- the lines answered then, and what is written, by the lines answered before and the number of bytes begun
+abbrev pub endLines : ℕ → ℕ → ℕ
+endLines lines begun = cond (endsLine lines begun) (lines + 1) lines
+
+abbrev pub endTold : ℕ → ℕ → List ℕ
+endTold lines begun = cond (endsLine lines begun) (answerLine (lines + 1) (numberOf BadLine)) []
+
 abbrev pub endText : Run → Run
-endText r = cond (eqb (length (r .begun)) 0) r (ended r (r .begun))
+endText r = runAt (r .book) (endLines (r .lines) (length (r .begun))) []
 
 abbrev pub toldEnd : Run → List ℕ
-toldEnd r = cond (eqb (length (r .begun)) 0) [] (toldEnded r (r .begun))
+toldEnd r = endTold (r .lines) (length (r .begun))
+
+-- a buffer without room for an answer is refused, and nothing is written
+abbrev pub endFits : List ℕ → Bool
+endFits out = leb answerLength (length out)
+
+pub record EndTaken (lines begun : ℕ) (out : List ℕ) (r : Ending) (out' : List ℕ) : Type 0 where
+  pub answer-is : r .answer ≡ cond (endFits out) Accepted (Refused UnfitMemory)
+  pub lines-are : r .lines ≡ cond (endFits out) (endLines lines begun) lines
+  pub told-is : r .told ≡ cond (endFits out) (length (endTold lines begun)) 0
+  pub out-is : out' ≡ cond (endFits out) (pasted 0 (endTold lines begun) out) out
 
 -- ---- the positions
 

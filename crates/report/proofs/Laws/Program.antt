@@ -18,7 +18,7 @@ use Rattle.events.specs.Line.{lineEnd, lineLength, columns, readLine}
 use Rattle.events.proofs.Laws.Line.{readLine-length, readLine-end}
 use Rattle.tables.specs.Limits.{creditorCount, debtorCount, bankCount}
 use Rattle.tables.specs.Ledger.{Ledger}
-use Rattle.tables.specs.Fitness.{fit, sizesFit}
+use Rattle.tables.specs.Fitness.{fit}
 use Rattle.tables.specs.Opening.{opened}
 use Rattle.model.specs.declared.QueryAnswer.the-variants.{Figure, Refused}
 use Rattle.model.specs.Step.{after, inQuery, figureOf, query, run, history}
@@ -27,9 +27,8 @@ use Rattle.model.specs.Promises.{answered}
 use Rattle.model.proofs.Laws.Theorem.{demand3}
 use Rattle.report.specs.Layout.{lastNumber}
 use Rattle.report.specs.Cut.{Endless}
-use Rattle.report.specs.Run.{Run, runAt, kept, afterLine, ended, takeByte, takeText, eventIn, eventsEnded, eventsByte, eventsText, endText, toldPosition, toldFigures, toldPositions, toldJournal}
+use Rattle.report.specs.Run.{Run, runAt, kept, afterLine, ended, takeByte, takeText, eventIn, eventsEnded, eventsByte, eventsText, toldPosition, toldFigures, toldPositions, toldJournal}
 use Rattle.report.specs.Promises.{ProgramKept}
-use Rattle.report.proofs.Laws.Run.{Begun, begun-none, begun-text}
 
 -- ---- a text is its events
 
@@ -76,7 +75,7 @@ text-book (b ∷ bs) r =
 -- ---- the end of the input
 
 -- a line without its end is a bad one
-endless-bad : (line : List ℕ) → Endless line → readLine line ≡ lines.Refused BadLine
+pub endless-bad : (line : List ℕ) → Endless line → readLine line ≡ lines.Refused BadLine
 endless-bad line e =
     ⊎-elim
     (λ (s : eqb (length line) lineLength ≡ true).
@@ -84,16 +83,6 @@ endless-bad line e =
     readLine-end line n (e columns (omega arith)))
     (λ (s : eqb (length line) lineLength ≡ false). readLine-length line (eqb-false (length line) lineLength s))
     (true-or-false (eqb (length line) lineLength))
-
-end-book : (r : Run) → Begun r → endText r .book ≡ r .book
-end-book r h = by-none (eqb (length (r .begun)) 0) (ltb (r .lines) lastNumber)
-  where
-    by-none : (none more : Bool)
-        → cond none r (cond more (runAt (afterLine (r .book) (readLine (r .begun))) (r .lines + 1) []) (runAt (r .book) (r .lines) [])) .book
-        ≡ r .book
-    by-none true more = refl
-    by-none false true = ap (λ (a : LineAnswer). afterLine (r .book) a) (endless-bad (r .begun) (h .endless))
-    by-none false false = refl
 
 -- ---- the listing
 
@@ -140,10 +129,9 @@ program-kept t z text =
     let r = takeText s text in
     let k = demand3 t z es in
     let e = text-book text s in
-    let f = end-book r (begun-text text s (begun-none l 0)) in
     record {
       after = e;
       all-kept = k;
-      at-end = f;
-      listing = rw (f ∙ e) (listing-same (run l es) (journal (history l es)) (k .figures));
+      at-end = refl;
+      listing = rw e (listing-same (run l es) (journal (history l es)) (k .figures));
     }

@@ -4,23 +4,21 @@ use mathlib.Core.Path.{_≡_, refl, sym, ap, _∙_}
 use mathlib.Core.Bool.{Bool, true, false, cond}
 use mathlib.Core.Logic.{⊎-elim, _≢_}
 use mathlib.Core.List.{List, [], _∷_, _++_, append-assoc, append-nil}
-use Prim.Native.Nat.{ℕ, zero, suc, _+_, _-_, _≤_, _<_}
+use Prim.Native.Nat.{ℕ, suc, _+_, _-_, _≤_, _<_}
 use native.Mathlib.Nat.{eq-or-lt-of-le}
-use native.Mathlib.Numerals.{add-one}
 use native.Mathlib.Omega.{arith}
-use borrow.Author.Tests.{eq-eqb, ne-eqb, eqb-true, eqb-false, leb-true, leb-false}
+use borrow.Author.Tests.{ne-eqb, eqb-false, leb-true, leb-false}
 use lib.Dec.{eqb, leb, ltb}
 use lib.ListN.{length, take, drop, getD, length-append, length-take, length-drop, take-append-drop, List·getD-append}
 use lib.Seq.{take-all, take-append-le, take-take, length-take-le, take-add, take-suc, getD-take, getD-drop, getD-append-seam}
 use Rattle.common.proofs.Tests.{true-or-false}
-use Rattle.events.specs.declared.line.LineAnswer.{LineAnswer}
-use Rattle.events.specs.Line.{lineEnd, lineLength, readLine}
+use Rattle.events.specs.Line.{lineEnd, readLine}
 use Rattle.events.proofs.Laws.Line.{readLine-length}
 use Rattle.tables.specs.Ledger.{Ledger}
 use Rattle.report.specs.Layout.{lastNumber}
 use Rattle.report.specs.Run.{Run, afterLine, runAt, keptLength, kept, ended, toldEnded, takeByte, toldByte, takeText, toldText}
 use Rattle.report.specs.Cut.{Endless}
-use Rattle.report.specs.Promises.{Answered, LineByLine, SameAtOnce, PieceByPiece}
+use Rattle.report.specs.Promises.{LineByLine, PieceByPiece}
 use Rattle.report.proofs.Laws.Cut.{FirstEnd}
 
 -- ---- one text behind the other
