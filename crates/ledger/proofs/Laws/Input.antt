@@ -22,7 +22,7 @@ use Rattle.ledger.specs.Input.{Behind, Given, Turned, Taken}
 
 -- ---- bytes at the front of others
 
-front-length : (x out : List ℕ) → length x ≤ length (pasted 0 x out)
+pub front-length : (x out : List ℕ) → length x ≤ length (pasted 0 x out)
 front-length x out = omega (arith, length-append x (drop (0 + length x) out))
 
 -- ---- a read
