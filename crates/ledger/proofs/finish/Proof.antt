@@ -1,5 +1,4 @@
 -- `finish` meets its contract: the memory is fit and the buffer has room, so the listing is written. Assumes nothing.
-use mathlib.Core.Path.{_∙_}
 use Rattle.ledger.proofs.Laws.Program.{ending-told, listed-long, listing-front}
 use borrow.Author.Needs.{needs}
 use Rattle.ledger.proofs.finish.Statement.{statement}
@@ -16,14 +15,18 @@ list-positions-requires c κs = search needs
 
 tell-requires-2 : tie.Need-tell-requires-2
 tell-requires-2 c κs =
-    listing-front _ _ (listed-long _ _ (c .before .before .before .before .before .before .before .before .before .before .before .before .before .before .before .before .pre) _ (c .before .before .before .before .before .before .before .before .before .end-text .kept .1 .1 .0)) _ _ (c .before .before .before .list-positions .ensures) .inside
+    let same = c .before .before .before .before .before .before .before .before .before .end-text .kept .1 .1 .0 in
+    let room = listed-long _ _ (c .before .before .before .before .before .before .before .before .before .before .before .before .before .before .before .before .pre) _ same in
+    listing-front _ _ room _ _ (c .before .before .before .list-positions .ensures) .inside
 
 same-length : tie.Need-same-length
 same-length c = search needs
 
 returns : tie.Need-returns
 returns c =
-    listing-front _ _ (listed-long _ _ (c .before .before .before .before .before .before .before .before .before .before .before .before .before .before .before .before .before .pre) _ (c .before .before .before .before .before .before .before .before .before .before .end-text .kept .1 .1 .0)) _ _ (c .before .before .before .before .list-positions .ensures)
+    let same = c .before .before .before .before .before .before .before .before .before .before .end-text .kept .1 .1 .0 in
+    let room = listed-long _ _ (c .before .before .before .before .before .before .before .before .before .before .before .before .before .before .before .before .before .pre) _ same in
+    listing-front _ _ room _ _ (c .before .before .before .before .list-positions .ensures)
 
 pub finish-spec : {M : Type 1} → statement M
 finish-spec =

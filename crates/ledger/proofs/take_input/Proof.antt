@@ -34,16 +34,19 @@ loop-holds : tie.Need-loop-holds Inv-loop μ-loop
 loop-holds c = (taken-none _ _, refl, refl, refl, refl, refl, refl, refl, refl)
 
 sub-turns : tie.Need-sub-turns Inv-loop μ-loop
-sub-turns c = turns-left (c .before .before .loop .turns) (c .before .before .loop .more) (c .before .before .loop .p .heard) (c .if1 .taken)
+sub-turns c =
+    let at = c .before .before .loop in
+    turns-left (at .turns) (at .more) (at .p .heard) (c .if1 .taken)
 
 read-behind-requires : tie.Need-read-behind-requires Inv-loop μ-loop
 read-behind-requires c κs = c .before .before .before .loop .inv .0 .inside
 
 take-piece-requires : tie.Need-take-piece-requires Inv-loop μ-loop
 take-piece-requires c κs =
+    let read = c .before .before .before .before .before .before .before .before .before .before .read-behind in
     record {
-      inside = c .before .before .before .before .before .before .before .before .before .before .read-behind .ensures .inside;
-      room = omega (arith, c .before .before .before .before .before .before .before .before .before .before .before .before .before .before .before .before .before .before .before .before .pre, c .before .before .before .before .before .before .before .before .before .before .read-behind .kept .0);
+      inside = read .ensures .inside;
+      room = omega (arith, c .before .before .before .before .before .before .before .before .before .before .before .before .before .before .before .before .before .before .before .before .pre, read .kept .0);
     }
 
 tell-requires : tie.Need-tell-requires Inv-loop μ-loop
@@ -52,19 +55,24 @@ tell-requires c κs =
 
 loop-less : tie.Need-loop-less Inv-loop μ-loop
 loop-less c =
-    omega (arith, turns-left (c .before .before .before .before .before .before .before .before .before .before .before .before .before .before .before .before .before .before .before .before .before .before .before .before .before .before .before .before .before .before .before .loop .turns) (c .before .before .before .before .before .before .before .before .before .before .before .before .before .before .before .before .before .before .before .before .before .before .before .before .before .before .before .before .before .before .before .loop .more) (c .before .before .before .before .before .before .before .before .before .before .before .before .before .before .before .before .before .before .before .before .before .before .before .before .before .before .before .before .before .before .before .loop .p .heard) (c .before .before .before .before .before .before .before .before .before .before .before .before .before .before .before .before .before .before .before .before .before .before .before .before .before .before .before .before .before .if1 .taken))
+    let at = c .before .before .before .before .before .before .before .before .before .before .before .before .before .before .before .before .before .before .before .before .before .before .before .before .before .before .before .before .before .before .before .loop in
+    omega (arith, turns-left (at .turns) (at .more) (at .p .heard) (c .before .before .before .before .before .before .before .before .before .before .before .before .before .before .before .before .before .before .before .before .before .before .before .before .before .before .before .before .before .if1 .taken))
 
 loop-again : tie.Need-loop-again Inv-loop μ-loop
 loop-again c =
-    (taken-on _ _ _ _ (c .before .before .before .before .before .before .before .before .before .before .before .before .before .before .before .before .before .before .before .before .before .before .before .before .before .before .before .before .before .before .before .loop .inv .0) _ _ (c .before .before .before .before .before .before .before .before .before .before .before .before .before .before .before .before .before .before .before .before .before .before .before .before .before .before .before .read-behind .ensures) _ _ _ _ _ (c .before .before .before .before .before .before .before .before .before .before .before .before .before .before .before .before .take-piece .ensures),
-    c .before .before .before .before .before .before .before .before .before .before .before .before .before .before .before .before .take-piece .kept .1 .1 .0 ∙ c .before .before .before .before .before .before .before .before .before .before .before .before .before .before .before .before .before .before .before .before .before .before .before .before .before .before .before .read-behind .kept .0 ∙ c .before .before .before .before .before .before .before .before .before .before .before .before .before .before .before .before .before .before .before .before .before .before .before .before .before .before .before .before .before .before .before .loop .inv .1,
-    c .before .before .before .before .before .before .before .before .before .before .before .before .before .before .before .before .take-piece .kept .1 .1 .1 .0 ∙ c .before .before .before .before .before .before .before .before .before .before .before .before .before .before .before .before .before .before .before .before .before .before .before .before .before .before .before .before .before .before .before .loop .inv .2,
-    c .before .before .before .before .before .before .before .before .before .before .before .before .before .before .before .before .take-piece .kept .1 .1 .1 .1 .0 ∙ c .before .before .before .before .before .before .before .before .before .before .before .before .before .before .before .before .before .before .before .before .before .before .before .before .before .before .before .before .before .before .before .loop .inv .3,
-    c .before .before .before .before .before .before .before .before .before .before .before .before .before .before .before .before .take-piece .kept .1 .1 .1 .1 .1 .0 ∙ c .before .before .before .before .before .before .before .before .before .before .before .before .before .before .before .before .before .before .before .before .before .before .before .before .before .before .before .before .before .before .before .loop .inv .4,
-    c .before .before .before .before .before .before .before .before .before .before .before .before .before .before .before .before .take-piece .kept .1 .1 .1 .1 .1 .1 .0 ∙ c .before .before .before .before .before .before .before .before .before .before .before .before .before .before .before .before .before .before .before .before .before .before .before .before .before .before .before .before .before .before .before .loop .inv .5,
-    c .before .before .before .before .before .before .before .before .before .before .before .before .before .before .before .before .take-piece .kept .1 .1 .1 .1 .1 .1 .1 .0 ∙ c .before .before .before .before .before .before .before .before .before .before .before .before .before .before .before .before .before .before .before .before .before .before .before .before .before .before .before .before .before .before .before .loop .inv .6,
-    c .before .before .before .before .before .before .before .before .before .before .before .before .before .before .before .before .take-piece .kept .1 .1 .1 .1 .1 .1 .1 .1 .0 ∙ c .before .before .before .before .before .before .before .before .before .before .before .before .before .before .before .before .before .before .before .before .before .before .before .before .before .before .before .before .before .before .before .loop .inv .7,
-    c .before .before .before .before .before .before .before .before .before .before .before .before .before .before .before .before .take-piece .kept .1 .1 .1 .1 .1 .1 .1 .1 .1 .0 ∙ c .before .before .before .before .before .before .before .before .before .before .before .before .before .before .before .before .before .before .before .before .before .before .before .before .before .before .before .before .before .before .before .loop .inv .8)
+    let at = c .before .before .before .before .before .before .before .before .before .before .before .before .before .before .before .before .before .before .before .before .before .before .before .before .before .before .before .before .before .before .before .loop in
+    let read = c .before .before .before .before .before .before .before .before .before .before .before .before .before .before .before .before .before .before .before .before .before .before .before .before .before .before .before .read-behind in
+    let turn = c .before .before .before .before .before .before .before .before .before .before .before .before .before .before .before .before .take-piece in (
+      taken-on _ _ _ _ (at .inv .0) _ _ (read .ensures) _ _ _ _ _ (turn .ensures),
+      turn .kept .1 .1 .0 ∙ read .kept .0 ∙ at .inv .1,
+      turn .kept .1 .1 .1 .0 ∙ at .inv .2,
+      turn .kept .1 .1 .1 .1 .0 ∙ at .inv .3,
+      turn .kept .1 .1 .1 .1 .1 .0 ∙ at .inv .4,
+      turn .kept .1 .1 .1 .1 .1 .1 .0 ∙ at .inv .5,
+      turn .kept .1 .1 .1 .1 .1 .1 .1 .0 ∙ at .inv .6,
+      turn .kept .1 .1 .1 .1 .1 .1 .1 .1 .0 ∙ at .inv .7,
+      turn .kept .1 .1 .1 .1 .1 .1 .1 .1 .1 .0 ∙ at .inv .8,
+    )
 
 same-length : tie.Need-same-length Inv-loop μ-loop
 same-length c = search needs
