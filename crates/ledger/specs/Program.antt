@@ -3,7 +3,7 @@
 use mathlib.Core.Path.{_≡_}
 use mathlib.Core.Bool.{true}
 use mathlib.Core.List.{List, []}
-use Prim.Native.Nat.{ℕ, _*_, _≤_}
+use Prim.Native.Nat.{ℕ, _≤_}
 use lib.ListN.{length, take}
 use Rattle.tables.specs.Rows.{rows}
 use Rattle.tables.specs.Ledger.{Ledger}
@@ -11,8 +11,7 @@ use Rattle.tables.specs.Fitness.{sizesFit}
 use Rattle.tables.specs.Opening.{opened}
 use Rattle.model.specs.Step.{history}
 use Rattle.model.specs.Journal.{journal}
-use Rattle.report.specs.Layout.{answerLength}
-use Rattle.report.specs.Run.{runAt, eventsText, toldJournal, listingRoom}
+use Rattle.report.specs.Run.{runAt, eventsText, toldJournal}
 
 -- ---- the start
 
@@ -29,11 +28,6 @@ pub record Begins (l : Ledger) : Type 0 where
   pub is-opened : l ≡ opened tables
   pub mandates : rows (tables .mandates) ≡ mandateRows
   pub collections : rows (tables .collections) ≡ collectionRows
-
--- the buffer has room for an answer to each byte of the text, and for the longest listing
-pub record Roomy (text out : List ℕ) : Type 0 where
-  pub answers : answerLength * length text ≤ length out
-  pub listing : listingRoom ≤ length out
 
 -- ---- the end
 

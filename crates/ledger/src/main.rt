@@ -10,7 +10,7 @@ ghost use Rattle.tables.specs.Ledger.{ledger};
 ghost use Rattle.report.specs.Layout.{answerLength};
 ghost use Rattle.report.specs.Run.{runAt, toldPositions, listed};
 ghost use Rattle.ledger.specs.Input.{Behind, Given, Turned, Taken};
-ghost use Rattle.ledger.specs.Program.{Begins, Roomy, InFront, Shown};
+ghost use Rattle.ledger.specs.Program.{Begins, InFront, Shown};
 use book::text::take_text;
 use libc::STDIN_FILENO;
 use libc::STDOUT_FILENO;
@@ -22,6 +22,12 @@ use tables::opening::open_ledger;
 
 // The most lines that are answered.
 const LINES: u64 = 999_999;
+
+// The bytes of the text and of the buffer, which has room for an answer to each byte of the text. The text is large, since
+// the memory is tested once for a piece.
+const TEXT: usize = 262_144;
+
+const OUT: usize = 2_621_440;
 
 // How far a run is: the header of the ledger, the lines answered, the bytes at the front of the text that begin a line,
 // the bytes of answers to be told, and whether what is told still finds a reader.
@@ -179,8 +185,8 @@ fn finish(
 // The lines of the input, and then the positions, by a text and a buffer for answers; gives the bytes of the listing.
 fn run_by(
     header: Header,
-    text: &mut [u8],
-    out: &mut [u8],
+    text: &mut [u8; TEXT],
+    out: &mut [u8; OUT],
     mandates: &mut [u64],
     collections: &mut [u64],
     creditors: &mut [u64],
@@ -189,7 +195,6 @@ fn run_by(
     bank_positions: &mut [i64],
 ) -> usize
     requires { ⌜ Begins (ledger header (now mandates) (now collections) (now creditors) (now «creditor_positions») (now «debtor_positions») (now «bank_positions»)) ⌝ }
-    requires { ⌜ Roomy (now text) (now out) ⌝ }
     ensures { λ r. ⌜ Shown (ledger header (now (mandates .entry)) (now (collections .entry)) (now (creditors .entry)) (now («creditor_positions» .entry)) (now («debtor_positions» .entry)) (now («bank_positions» .entry))) r (now (out .exit)) ⌝ }
 {
     let p = take_input(
@@ -215,8 +220,7 @@ fn run_by(
     )
 }
 
-// Lends the text and the buffer, which has room for an answer to each byte of the text. The text is large, since the memory
-// is tested once for a piece.
+// Lends the text and the buffer.
 fn run(
     header: Header,
     mandates: &mut [u64],
@@ -228,8 +232,8 @@ fn run(
 )
     requires { ⌜ Begins (ledger header (now mandates) (now collections) (now creditors) (now «creditor_positions») (now «debtor_positions») (now «bank_positions»)) ⌝ }
 {
-    let mut text = [0u8; 262144];
-    let mut out = [0u8; 2621440];
+    let mut text = [0u8; TEXT];
+    let mut out = [0u8; OUT];
     run_by(
         header,
         &mut text,

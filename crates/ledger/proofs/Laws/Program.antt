@@ -1,10 +1,10 @@
--- Laws of specs/Program. To cite: `begins-opened`, `rows-lent`, `roomy-lent`; `ending-told`, `listed-long`, `listing-front`; `listed-after`,
+-- Laws of specs/Program. To cite: `begins-opened`, `rows-lent`; `ending-told`, `listed-long`, `listing-front`; `listed-after`,
 -- `shown-after`. Assumes nothing.
 use mathlib.Core.Path.{_≡_, refl, sym, ap, _∙_}
 use mathlib.Core.Bool.{Bool, true, false, cond}
 use mathlib.Core.List.{List, []}
 use mathlib.Core.Logic.{⊎-elim}
-use Prim.Native.Nat.{ℕ, _+_, _*_, _/_, _≤_}
+use Prim.Native.Nat.{ℕ, _+_, _/_, _≤_}
 use native.Mathlib.Omega.{arith}
 use borrow.Author.Tests.{le-leb}
 use lib.IntN.{ℤ}
@@ -24,12 +24,11 @@ use Rattle.model.specs.Step.{query, run}
 use Rattle.model.specs.Journal.{figureIn}
 use Rattle.report.specs.declared.ending.Ending.{Ending}
 use Rattle.report.specs.declared.listing.Listing.{Listing}
-use Rattle.report.specs.Layout.{answerLength}
 use Rattle.report.specs.Run.{Run, runAt, takeText, eventsText, endTold, endFits, EndTaken, toldPositions, listingRoom, listed, Listed}
 use Rattle.report.specs.Promises.{TextKept}
 use Rattle.report.proofs.Laws.Program.{program-kept}
 use Rattle.ledger.specs.Input.{Taken}
-use Rattle.ledger.specs.Program.{mandateRows, collectionRows, Begins, Roomy, InFront, Shown}
+use Rattle.ledger.specs.Program.{mandateRows, collectionRows, Begins, InFront, Shown}
 use Rattle.ledger.proofs.Laws.Input.{front-length}
 
 -- ---- the start
@@ -52,15 +51,9 @@ begins-opened t l answer e a m c =
       collections = c;
     }
 
--- zeros that are lent
+-- rows of zeros
 pub rows-lent : (n : ℕ) → rows (replicate n 0) ≡ n / stride
 rows-lent n = ap (λ (k : ℕ). k / stride) (length-replicate {A = ℕ} n 0)
-
-pub roomy-lent : (m n : ℕ) → answerLength * m ≤ n → listingRoom ≤ n → Roomy (replicate m 0) (replicate n 0)
-roomy-lent m n h k =
-    let p = length-replicate {A = ℕ} m 0 in
-    let q = length-replicate {A = ℕ} n 0 in
-    record { answers = rw (p, q) h; listing = rw q k }
 
 -- ---- the end
 
