@@ -1,5 +1,5 @@
 -- The run of the program `ledger`: the bytes of its input one after the other, and what it writes. Document 01, "The text line".
--- What the pieces that an input comes in and the lines of a text have to do with it: specs/Promises. Assumes nothing.
+-- What the lines of a text and the pieces that an input comes in have to do with it: specs/Promises. Assumes nothing.
 use mathlib.Core.Path.{_≡_}
 use mathlib.Core.Bool.{Bool, cond, _&&_}
 use mathlib.Core.List.{List, [], _∷_, _++_}
@@ -9,7 +9,6 @@ use lib.IntN.{ℤ, pos, negsuc}
 use lib.ListN.{take, length}
 use Rattle.refusals.specs.Refusals.{numberOf}
 use Rattle.refusals.specs.declared.Refusal.the-variants.{BadLine, UnfitMemory}
-use Rattle.events.specs.declared.Event.{Event}
 use Rattle.events.specs.declared.line.LineAnswer.{LineAnswer}
 use Rattle.events.specs.declared.line.LineAnswer.the-variants as lines
 use Rattle.events.specs.Line.{lineEnd, lineLength, readLine, pasted}
@@ -85,21 +84,6 @@ takeText r (b ∷ bs) = takeText (takeByte r b) bs
 unfoldable pub toldText : Run → List ℕ → List ℕ
 toldText r [] = []
 toldText r (b ∷ bs) = toldByte r b ++ toldText (takeByte r b) bs
-
--- the events of a text, those of its answered lines that the reader takes
-abbrev pub eventIn : LineAnswer → List Event
-eventIn (lines.Taken e) = e ∷ []
-eventIn (lines.Refused r) = []
-
-abbrev pub eventsEnded : Run → List ℕ → List Event
-eventsEnded r line = cond (ltb (r .lines) lastNumber) (eventIn (readLine line)) []
-
-abbrev pub eventsByte : Run → ℕ → List Event
-eventsByte r b = cond (eqb b lineEnd) (eventsEnded r (kept (r .begun ++ (b ∷ [])))) []
-
-unfoldable pub eventsText : Run → List ℕ → List Event
-eventsText r [] = []
-eventsText r (b ∷ bs) = eventsByte r b ++ eventsText (takeByte r b) bs
 
 -- ---- the end of the input: bytes of a line that has not ended are a line refused 1, one of the 999,999
 
