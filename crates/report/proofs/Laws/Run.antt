@@ -17,9 +17,8 @@ use Rattle.events.proofs.Laws.Line.{readLine-length}
 use Rattle.tables.specs.Ledger.{Ledger}
 use Rattle.report.specs.Layout.{lastNumber}
 use Rattle.report.specs.Run.{Run, afterLine, runAt, keptLength, kept, ended, toldEnded, takeByte, toldByte, takeText, toldText, endText, toldEnd}
-use Rattle.report.specs.Cut.{Endless}
 use Rattle.report.specs.Promises.{takePiece, toldPiece, takePieces, toldPieces, joined, InPieces}
-use Rattle.report.proofs.Laws.Cut.{FirstEnd}
+use Rattle.report.proofs.Laws.Cut.{Endless, FirstEnd}
 
 -- ---- one text behind the other
 
