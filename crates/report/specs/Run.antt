@@ -34,6 +34,14 @@ abbrev pub afterLine : Ledger → LineAnswer → Ledger
 afterLine l (lines.Taken e) = after l e
 afterLine l (lines.Refused r) = l
 
+-- ---- a call: accepted where lent memory fits, else refused with 2
+
+abbrev pub fitAnswer : Bool → Answer
+fitAnswer fits = cond fits Accepted (Refused UnfitMemory)
+
+abbrev pub fitNumber : Bool → ℕ
+fitNumber fits = cond fits 0 (numberOf UnfitMemory)
+
 -- ---- how far a run is
 
 pub record Run : Type 0 where
@@ -108,7 +116,8 @@ abbrev pub endFits : List ℕ → Bool
 endFits out = leb answerLength (length out)
 
 pub record EndTaken (lines begun : ℕ) (out : List ℕ) (r : Ending) (out' : List ℕ) : Type 0 where
-  pub answer-is : r .answer ≡ cond (endFits out) Accepted (Refused UnfitMemory)
+  pub answer-is : r .answer ≡ fitAnswer (endFits out)
+  pub number-is : answerNumber (r .answer) ≡ fitNumber (endFits out)
   pub lines-are : r .lines ≡ cond (endFits out) (endLines lines begun) lines
   pub told-is : r .told ≡ cond (endFits out) (length (endTold lines begun)) 0
   pub out-is : out' ≡ cond (endFits out) (pasted 0 (endTold lines begun) out) out
@@ -159,6 +168,7 @@ toldTable kind positions n = toldFigures kind (position positions) n
 
 -- the listing, or refusal 2 and nothing written
 pub record Listed (l : Ledger) (out : List ℕ) (r : Listing) (out' : List ℕ) : Type 0 where
-  pub answer-is : r .answer ≡ cond (listed l out) Accepted (Refused UnfitMemory)
+  pub answer-is : r .answer ≡ fitAnswer (listed l out)
+  pub number-is : answerNumber (r .answer) ≡ fitNumber (listed l out)
   pub bytes-are : r .bytes ≡ cond (listed l out) (length (toldPositions l)) 0
   pub out-is : out' ≡ cond (listed l out) (pasted 0 (toldPositions l) out) out
