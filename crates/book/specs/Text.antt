@@ -13,12 +13,12 @@ use Rattle.events.specs.Limits.{checked}
 use Rattle.events.specs.Line.{readLine, pasted}
 use Rattle.tables.specs.declared.Header.{Header}
 use Rattle.tables.specs.Ledger.{Ledger}
-use Rattle.model.specs.declared.Answer.{Answer}
-use Rattle.model.specs.declared.Answer.the-variants.{Accepted, Refused}
+use Rattle.model.specs.declared.Answer.the-variants.{Refused}
+use Rattle.model.specs.Step.{answerNumber}
 use Rattle.index.specs.Index.{Indexed}
 use Rattle.model.proofs.Laws.Invariant.{Safe}
 use Rattle.report.specs.Layout.{answerLength}
-use Rattle.report.specs.Run.{Run, runAt, kept, answerTo, afterLine, ended, toldEnded, takeText, toldText}
+use Rattle.report.specs.Run.{Run, fitAnswer, fitNumber, runAt, kept, answerTo, afterLine, ended, toldEnded, takeText, toldText}
 use Rattle.book.specs.declared.Outcome.{Outcome}
 use Rattle.book.specs.declared.text.Progress.{Progress}
 use Rattle.book.specs.declared.text.Lines.{Lines}
@@ -71,16 +71,13 @@ pub record LinesTold (s : Run) (text out : List ℕ) (r : Lines) (l' : Ledger) (
 
 -- ---- the call
 
--- refusal 2, or none
-abbrev pub fitAnswer : Bool → Answer
-fitAnswer fits = cond fits Accepted (Refused UnfitMemory)
-
 abbrev pub unfitPiece : Header → ℕ → ℕ → Piece
 unfitPiece h lines filled = record { answer = Refused UnfitMemory; header = h; lines = lines; begun = filled; told = 0 }
 
 -- where lent text and buffer fit, the run comes to s and writes the bytes t to the buffer; else nothing changes
 pub record Told (fits : Bool) (l : Ledger) (lines filled : ℕ) (out : List ℕ) (s : Run) (t : List ℕ) (r : Piece) (l' : Ledger) (out' : List ℕ) : Type 0 where
   pub answer-is : r .answer ≡ fitAnswer fits
+  pub number-is : answerNumber (r .answer) ≡ fitNumber fits
   pub book-is : l' ≡ cond fits (s .book) l
   pub lines-are : r .lines ≡ cond fits (s .lines) lines
   pub begun-is : r .begun ≡ cond fits (length (s .begun)) filled

@@ -293,7 +293,7 @@ module _ (l : Ledger) (lines filled : ℕ) (text out : List ℕ) where
   pub piece-refused : (h : Header) → pieceFits filled text out ≡ false → PieceTaken l lines filled text out (unfitPiece h lines filled) l text out
   piece-refused h f =
       record {
-        told = record { answer-is = rw f; book-is = rw f; lines-are = rw f; begun-is = rw f; told-is = rw f; out-is = rw f };
+        told = record { answer-is = rw f; number-is = rw f; book-is = rw f; lines-are = rw f; begun-is = rw f; told-is = rw f; out-is = rw f };
         text-is = rw f;
       }
 
@@ -308,6 +308,7 @@ module _ (l : Ledger) (lines filled : ℕ) (text out : List ℕ) where
         told =
             record {
               answer-is = rw f;
+              number-is = rw f;
               book-is = rw (f, t .run);
               lines-are = rw (f, t .run);
               begun-is = rw (f, t .run) b;

@@ -18,10 +18,10 @@ use Rattle.report.proofs.Laws.Layout.{length-answerLine, answerFits-mad
 
 module _ (lines begun : ℕ) (out : List ℕ) where
   pub end-refused : endFits out ≡ false → EndTaken lines begun out (record { lines = lines; told = 0; answer = Refused UnfitMemory }) out
-  end-refused f = record { answer-is = rw f; lines-are = rw f; told-is = rw f; out-is = rw f }
+  end-refused f = record { answer-is = rw f; number-is = rw f; lines-are = rw f; told-is = rw f; out-is = rw f }
 
   pub end-none : endFits out ≡ true → endsLine lines begun ≡ false → EndTaken lines begun out (record { lines = lines; told = 0; answer = Accepted }) out
-  end-none f n = record { answer-is = rw f; lines-are = rw (f, n); told-is = rw (f, n); out-is = rw (f, n) }
+  end-none f n = record { answer-is = rw f; number-is = rw f; lines-are = rw (f, n); told-is = rw (f, n); out-is = rw (f, n) }
 
   pub end-line : (number : ℕ) (out' : List ℕ)
       → endFits out ≡ true
@@ -35,6 +35,7 @@ module _ (lines begun : ℕ) (out : List ℕ) where
       answerFits-made 0 (lines + 1) number out (leb-true answerLength (length out) f) (omega arith) (omega (arith, e)) in
       record {
         answer-is = rw f;
+        number-is = rw f;
         lines-are = rw (f, n);
         told-is = rw (f, n) (sym (length-answerLine (lines + 1) (numberOf BadLine)));
         out-is = rw (f, n) (rw (fits, e) at w);
