@@ -2,16 +2,16 @@
 -- positions. Assumes nothing.
 use mathlib.Core.Path.{_≡_}
 use mathlib.Core.Bool.{true}
-use mathlib.Core.List.{List, []}
+use mathlib.Core.List.{List}
 use Prim.Native.Nat.{ℕ, _≤_}
 use lib.ListN.{length, take}
 use Rattle.tables.specs.Rows.{rows}
 use Rattle.tables.specs.Ledger.{Ledger}
 use Rattle.tables.specs.Fitness.{sizesFit}
 use Rattle.tables.specs.Opening.{opened}
-use Rattle.model.specs.Step.{history}
 use Rattle.model.specs.Journal.{journal}
-use Rattle.report.specs.Run.{runAt, eventsText, toldJournal}
+use Rattle.report.specs.Run.{toldJournal}
+use Rattle.report.specs.Lines.{answeredLines, answersOf, historyOf}
 
 -- ---- the start
 
@@ -36,7 +36,7 @@ pub record InFront (told : List ℕ) (bytes : ℕ) (out : List ℕ) : Type 0 whe
   pub inside : bytes ≤ length out
   pub is : take bytes out ≡ told
 
--- there is an input, and the listing shows the figures of the journal of its events
+-- there is an input, and the listing shows the figures of the journal, by its lines and the answers written to them
 pub record Shown (l : Ledger) (bytes : ℕ) (out : List ℕ) : Type 0 where
   pub input : List ℕ
-  pub listing : InFront (toldJournal (journal (history l (eventsText (runAt l 0 []) input)))) bytes out
+  pub listing : InFront (toldJournal (journal (historyOf (answeredLines 0 input) (answersOf l (answeredLines 0 input))))) bytes out

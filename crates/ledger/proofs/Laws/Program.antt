@@ -20,12 +20,13 @@ use Rattle.tables.specs.Ledger.{Ledger}
 use Rattle.tables.specs.Fitness.{fit, sizesFit}
 use Rattle.tables.specs.Opening.{Outcome, openNumber, outcome, opened, opening}
 use Rattle.model.specs.declared.QueryAnswer.the-variants.{Figure}
-use Rattle.model.specs.Step.{query, run}
-use Rattle.model.specs.Journal.{figureIn}
+use Rattle.model.specs.Step.{query}
 use Rattle.report.specs.declared.ending.Ending.{Ending}
 use Rattle.report.specs.declared.listing.Listing.{Listing}
-use Rattle.report.specs.Run.{Run, runAt, takeText, eventsText, endTold, endFits, EndTaken, toldPositions, listingRoom, listed, Listed}
+use Rattle.report.specs.Run.{Run, runAt, takeText, endTold, endFits, EndTaken, toldPositions, listingRoom, listed, Listed}
+use Rattle.report.specs.Lines.{answeredLines}
 use Rattle.report.specs.Promises.{TextKept}
+use Rattle.report.proofs.Laws.Lines.{line-by-line}
 use Rattle.report.proofs.Laws.Program.{program-kept}
 use Rattle.ledger.specs.Input.{Taken}
 use Rattle.ledger.specs.Program.{mandateRows, collectionRows, Begins, InFront, Shown}
@@ -86,8 +87,7 @@ module _ (l : Ledger) (out : List ℕ) (h : listed l out ≡ true) where
 
 -- ---- the whole run
 
-text-kept : (l : Ledger) → Begins l → (input : List ℕ)
-    → TextKept l input (eventsText (runAt l 0 []) input) (takeText (runAt l 0 []) input)
+text-kept : (l : Ledger) → Begins l → (input : List ℕ) → TextKept l (answeredLines 0 input) (takeText (runAt l 0 []) input)
 text-kept l b input = rw (b .is-opened) (program-kept (b .tables) (b .accepted) input)
 
 -- a ledger that answers a query is fit
@@ -97,18 +97,16 @@ answers-fit l kind number z e =
     true-unless (fit l) (λ f. let q = rw f at e in let x : _≡_ {A = ℕ} 0 1 = cc in omega arith)
 
 module _ (l l' : Ledger) (lines begun : ℕ) (text : List ℕ) (b : Begins l) (t : Taken (runAt l 0 []) l' lines begun text) where
-  kept : TextKept l (t .input) (eventsText (runAt l 0 []) (t .input)) (takeText (runAt l 0 []) (t .input))
-  kept = text-kept l b (t .input)
-
   book-is : l' ≡ takeText (runAt l 0 []) (t .input) .book
   book-is = ap (λ (r : Run). r .book) (t .run-is)
 
   pub listed-after : (out : List ℕ) → listingRoom ≤ length out → listed l' out ≡ true
   unfolding listed
   listed-after out h =
-      let f : fit (run l (eventsText (runAt l 0 []) (t .input))) ≡ true = answers-fit _ 4 0 _ (kept .all-kept .figures 4 0 refl) in
-      and-true (ap fit (book-is ∙ kept .after) ∙ f) (le-leb listingRoom (length out) h)
+      let e = line-by-line l 0 (t .input) .after in
+      let f = answers-fit _ 4 0 _ (text-kept l b (t .input) .all-kept .figures 4 0 refl) in
+      and-true (ap fit (book-is ∙ e) ∙ f) (le-leb listingRoom (length out) h)
 
   pub shown-after : (bytes : ℕ) (out : List ℕ) → InFront (toldPositions l') bytes out → Shown l bytes out
   shown-after bytes out h =
-      record { input = t .input; listing = rw (ap toldPositions book-is ∙ kept .listing) at h }
+      record { input = t .input; listing = rw (ap toldPositions book-is ∙ text-kept l b (t .input) .listing) at h }
