@@ -7,7 +7,7 @@ use lib.ListN.{length, take}
 use Rattle.events.specs.Line.{pasted}
 use Rattle.tables.specs.Ledger.{Ledger}
 use Rattle.report.specs.Layout.{answerLength}
-use Rattle.report.specs.Run.{Run, runAt, takeText, toldText}
+use Rattle.report.specs.Run.{Run, runAt, takeText}
 use Rattle.book.specs.Text.{pieceRun, pieceTold}
 use Rattle.ledger.specs.declared.Progress.{Progress}
 

@@ -3,14 +3,15 @@
 use mathlib.Core.Path.{_≡_}
 use mathlib.Core.Bool.{true}
 use mathlib.Core.List.{List}
-use Prim.Native.Nat.{ℕ, _≤_}
+use Prim.Native.Nat.{ℕ}
 use lib.ListN.{length, take}
+use Rattle.events.specs.Line.{pasted}
 use Rattle.tables.specs.Rows.{rows}
 use Rattle.tables.specs.Ledger.{Ledger}
 use Rattle.tables.specs.Fitness.{sizesFit}
 use Rattle.tables.specs.Opening.{opened}
 use Rattle.model.specs.Journal.{journal}
-use Rattle.report.specs.Run.{toldJournal}
+use Rattle.report.specs.Run.{endTold, toldPositions, toldJournal}
 use Rattle.report.specs.Lines.{answeredLines, answersOf, historyOf}
 
 -- ---- the start
@@ -31,12 +32,12 @@ pub record Begins (l : Ledger) : Type 0 where
 
 -- ---- the end
 
--- the first bytes of the buffer are these
-pub record InFront (told : List ℕ) (bytes : ℕ) (out : List ℕ) : Type 0 where
-  pub inside : bytes ≤ length out
-  pub is : take bytes out ≡ told
+-- what is told where the input ends: the answer to a line that has begun, and then, written over it, the positions
+pub record Finished (l : Ledger) (lines begun : ℕ) (out : List ℕ) (bytes : ℕ) (out' : List ℕ) : Type 0 where
+  pub bytes-are : bytes ≡ length (toldPositions l)
+  pub out-is : out' ≡ pasted 0 (toldPositions l) (pasted 0 (endTold lines begun) out)
 
--- there is an input, and the listing shows the figures of the journal, by its lines and the answers written to them
+-- there is an input, and the first bytes of the buffer show the figures of the journal, by its lines and the answers to them
 pub record Shown (l : Ledger) (bytes : ℕ) (out : List ℕ) : Type 0 where
   pub input : List ℕ
-  pub listing : InFront (toldJournal (journal (historyOf (answeredLines 0 input) (answersOf l (answeredLines 0 input))))) bytes out
+  pub listing : take bytes out ≡ toldJournal (journal (historyOf (answeredLines 0 input) (answersOf l (answeredLines 0 input))))

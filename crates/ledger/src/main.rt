@@ -8,9 +8,9 @@ ghost use Prim.Native.Nat.{_*_, _≤_};
 ghost use lib.ListN.{length};
 ghost use Rattle.tables.specs.Ledger.{ledger};
 ghost use Rattle.report.specs.Layout.{answerLength};
-ghost use Rattle.report.specs.Run.{runAt, toldPositions, listed};
+ghost use Rattle.report.specs.Run.{runAt, listed};
 ghost use Rattle.ledger.specs.Input.{Behind, Given, Turned, Taken};
-ghost use Rattle.ledger.specs.Program.{Begins, InFront, Shown};
+ghost use Rattle.ledger.specs.Program.{Begins, Finished, Shown};
 use book::text::take_text;
 use libc::STDIN_FILENO;
 use libc::STDOUT_FILENO;
@@ -163,7 +163,7 @@ fn finish(
     bank_positions: &[i64],
 ) -> usize
     requires { ⌜ listed (ledger (p .header) (now mandates) (now collections) (now creditors) (now «creditor_positions») (now «debtor_positions») (now «bank_positions»)) (now out) ≡ true ⌝ }
-    ensures { λ r. ⌜ InFront (toldPositions (ledger (p .header) (now (mandates .entry)) (now (collections .entry)) (now (creditors .entry)) (now («creditor_positions» .entry)) (now («debtor_positions» .entry)) (now («bank_positions» .entry)))) r (now (out .exit)) ⌝ }
+    ensures { λ r. ⌜ Finished (ledger (p .header) (now (mandates .entry)) (now (collections .entry)) (now (creditors .entry)) (now («creditor_positions» .entry)) (now («debtor_positions» .entry)) (now («bank_positions» .entry))) (p .lines) (p .begun) (now (out .entry)) r (now (out .exit)) ⌝ }
 {
     let header = p.header;
     let end = end_text(p.lines, p.begun, out);

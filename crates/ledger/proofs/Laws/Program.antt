@@ -1,16 +1,16 @@
--- Laws of specs/Program. To cite: `begins-opened`, `rows-lent`; `ending-told`, `listed-long`, `listing-front`; `listed-after`,
+-- Laws of specs/Program. To cite: `begins-opened`, `rows-lent`; `ending-told`, `finished-made`, `finished-told`; `listed-after`,
 -- `shown-after`. Assumes nothing.
 use mathlib.Core.Path.{_≡_, refl, sym, ap, _∙_}
-use mathlib.Core.Bool.{Bool, true, false, cond}
+use mathlib.Core.Bool.{true, false, cond}
 use mathlib.Core.List.{List, []}
 use mathlib.Core.Logic.{⊎-elim}
 use Prim.Native.Nat.{ℕ, _+_, _/_, _≤_}
 use native.Mathlib.Omega.{arith}
-use borrow.Author.Tests.{le-leb}
+use borrow.Author.Tests.{le-leb, leb-true}
 use lib.IntN.{ℤ}
 use lib.ListN.{length, take, drop, replicate, length-replicate}
 use lib.Seq.{take-append-seam}
-use Rattle.common.proofs.Tests.{true-or-false, true-unless, and-true}
+use Rattle.common.proofs.Tests.{true-or-false, true-unless, and-true, and-halves}
 use Rattle.events.specs.Line.{pasted}
 use Rattle.tables.specs.declared.OpenAnswer.{OpenAnswer}
 use Rattle.tables.specs.declared.OpenAnswer.the-variants.{Opened}
@@ -23,13 +23,14 @@ use Rattle.model.specs.declared.QueryAnswer.the-variants.{Figure}
 use Rattle.model.specs.Step.{query}
 use Rattle.report.specs.declared.ending.Ending.{Ending}
 use Rattle.report.specs.declared.listing.Listing.{Listing}
+use Rattle.report.specs.Layout.{answerLength}
 use Rattle.report.specs.Run.{Run, runAt, takeText, endTold, endFits, EndTaken, toldPositions, listingRoom, listed, Listed}
 use Rattle.report.specs.Lines.{answeredLines}
 use Rattle.report.specs.Promises.{TextKept}
 use Rattle.report.proofs.Laws.Lines.{line-by-line}
 use Rattle.report.proofs.Laws.Program.{program-kept}
 use Rattle.ledger.specs.Input.{Taken}
-use Rattle.ledger.specs.Program.{mandateRows, collectionRows, Begins, InFront, Shown}
+use Rattle.ledger.specs.Program.{mandateRows, collectionRows, Begins, Finished, Shown}
 use Rattle.ledger.proofs.Laws.Input.{front-length}
 
 -- ---- the start
@@ -58,10 +59,6 @@ rows-lent n = ap (λ (k : ℕ). k / stride) (length-replicate {A = ℕ} n 0)
 
 -- ---- the end
 
-in-front : (told out : List ℕ) → InFront told (length told) (pasted 0 told out)
-in-front told out =
-    record { inside = front-length told out; is = take-append-seam told (drop (0 + length told) out) }
-
 pub ending-told : (lines begun : ℕ) (out : List ℕ) (r : Ending) (out' : List ℕ) → EndTaken lines begun out r out' → r .told ≤ length out'
 ending-told lines begun out r out' t =
     let x = endTold lines begun in
@@ -73,17 +70,40 @@ ending-told lines begun out r out' t =
     (λ (e : endFits out ≡ false). let n : r .told ≡ 0 = rw e at (t .told-is) in omega arith)
     (true-or-false (endFits out))
 
-module _ (l : Ledger) (out : List ℕ) (h : listed l out ≡ true) where
-  -- a buffer of the same length
-  pub listed-long : (out' : List ℕ) → length out' ≡ length out → listed l out' ≡ true
-  unfolding listed
-  listed-long out' e = rw e h
+-- a buffer with room for the listing has room for an answer
+listed-ends : (l : Ledger) (out : List ℕ) → listed l out ≡ true → endFits out ≡ true
+unfolding listed
+listed-ends l out h =
+    let n = leb-true listingRoom (length out) (and-halves (fit l) h .1) in
+    le-leb answerLength (length out) (omega arith)
 
-  pub listing-front : (r : Listing) (out' : List ℕ) → Listed l out r out' → InFront (toldPositions l) (r .bytes) out'
-  listing-front r out' t =
-      let n : r .bytes ≡ length (toldPositions l) = rw h at (t .bytes-are) in
-      let o : out' ≡ pasted 0 (toldPositions l) out = rw h at (t .out-is) in
-      rw (n, o) (in-front (toldPositions l) out)
+-- and so has one of the same length
+listed-long : (l : Ledger) (out out' : List ℕ) → length out' ≡ length out → listed l out ≡ true → listed l out' ≡ true
+unfolding listed
+listed-long l out out' e h = rw e h
+
+pub finished-made : (l : Ledger) (lines begun : ℕ) (out : List ℕ) (e : Ending) (out' : List ℕ) (r : Listing) (out'' : List ℕ)
+    → listed l out ≡ true
+    → EndTaken lines begun out e out'
+    → length out' ≡ length out
+    → Listed l out' r out''
+    → Finished l lines begun out (r .bytes) out''
+finished-made l lines begun out e out' r out'' h t n s =
+    let f = listed-ends l out h in
+    let g = listed-long l out out' n h in
+    let o : out' ≡ pasted 0 (endTold lines begun) out = rw f at (t .out-is) in
+    record { bytes-are = rw g at (s .bytes-are); out-is = rw (g, o) at (s .out-is) }
+
+module _ (l : Ledger) (lines begun : ℕ) (out : List ℕ) (bytes : ℕ) (out' : List ℕ) (f : Finished l lines begun out bytes out') where
+  pub finished-told : bytes ≤ length out'
+  finished-told =
+      omega (arith, f .bytes-are, ap length (f .out-is), front-length (toldPositions l) (pasted 0 (endTold lines begun) out))
+
+  finished-front : take bytes out' ≡ toldPositions l
+  finished-front =
+      let x = toldPositions l in
+      rw (f .bytes-are, f .out-is)
+      (take-append-seam x (drop (0 + length x) (pasted 0 (endTold lines begun) out)))
 
 -- ---- the whole run
 
@@ -107,6 +127,12 @@ module _ (l l' : Ledger) (lines begun : ℕ) (text : List ℕ) (b : Begins l) (t
       let f = answers-fit _ 4 0 _ (text-kept l b (t .input) .all-kept .figures 4 0 refl) in
       and-true (ap fit (book-is ∙ e) ∙ f) (le-leb listingRoom (length out) h)
 
-  pub shown-after : (bytes : ℕ) (out : List ℕ) → InFront (toldPositions l') bytes out → Shown l bytes out
-  shown-after bytes out h =
-      record { input = t .input; listing = rw (ap toldPositions book-is ∙ text-kept l b (t .input) .listing) at h }
+  pub shown-after : (n k : ℕ) (out : List ℕ) (bytes : ℕ) (out' : List ℕ) → Finished l' n k out bytes out' → Shown l bytes out'
+  shown-after n k out bytes out' f =
+      record {
+        input = t .input;
+        listing =
+            finished-front l' n k out bytes out' f
+            ∙ ap toldPositions book-is
+            ∙ text-kept l b (t .input) .listing;
+      }

@@ -1,5 +1,5 @@
--- `finish` meets its contract: the memory is fit and the buffer has room, so the listing is written. Assumes nothing.
-use Rattle.ledger.proofs.Laws.Program.{ending-told, listed-long, listing-front}
+-- `finish` meets its contract: the memory is fit and the buffer has room, so answer and listing are written. Assumes nothing.
+use Rattle.ledger.proofs.Laws.Program.{ending-told, finished-made, finished-told}
 use borrow.Author.Needs.{needs}
 use Rattle.ledger.proofs.finish.Statement.{statement}
 use Rattle.ledger.proofs.finish.Tie as tie
@@ -15,18 +15,18 @@ list-positions-requires c κs = search needs
 
 tell-requires-2 : tie.Need-tell-requires-2
 tell-requires-2 c κs =
-    let same = c .before .before .before .before .before .before .before .before .before .end-text .kept .1 .1 .0 in
-    let room = listed-long _ _ (c .before .before .before .before .before .before .before .before .before .before .before .before .before .before .before .before .pre) _ same in
-    listing-front _ _ room _ _ (c .before .before .before .list-positions .ensures) .inside
+    let end = c .before .before .before .before .before .before .before .before .before .end-text in
+    let made = finished-made _ _ _ _ _ _ _ _ (c .before .before .before .before .before .before .before .before .before .before .before .before .before .before .before .before .pre) (end .ensures) (end .kept .1 .1 .0) (c .before .before .before .list-positions .ensures) in
+    finished-told _ _ _ _ _ _ made
 
 same-length : tie.Need-same-length
 same-length c = search needs
 
 returns : tie.Need-returns
 returns c =
-    let same = c .before .before .before .before .before .before .before .before .before .before .end-text .kept .1 .1 .0 in
-    let room = listed-long _ _ (c .before .before .before .before .before .before .before .before .before .before .before .before .before .before .before .before .before .pre) _ same in
-    listing-front _ _ room _ _ (c .before .before .before .before .list-positions .ensures)
+    let end = c .before .before .before .before .before .before .before .before .before .before .end-text in
+    let made = finished-made _ _ _ _ _ _ _ _ (c .before .before .before .before .before .before .before .before .before .before .before .before .before .before .before .before .before .pre) (end .ensures) (end .kept .1 .1 .0) (c .before .before .before .before .list-positions .ensures) in
+    made
 
 pub finish-spec : {M : Type 1} → statement M
 finish-spec =

@@ -33,7 +33,7 @@ same-length-6 c = search needs
 
 returns : tie.Need-returns
 returns c =
-    shown-after _ _ _ _ _ (c .before .before .before .before .before .before .before .before .before .before .before .before .before .before .before .before .before .before .before .before .before .before .before .before .before .before .before .before .before .pre) (c .before .before .before .before .before .before .before .before .before .before .before .before .before .before .before .before .before .take-input .ensures) _ _
+    shown-after _ _ _ _ _ (c .before .before .before .before .before .before .before .before .before .before .before .before .before .before .before .before .before .before .before .before .before .before .before .before .before .before .before .before .before .pre) (c .before .before .before .before .before .before .before .before .before .before .before .before .before .before .before .before .before .take-input .ensures) _ _ _ _ _
     (c .finish .ensures)
 
 pub run-by-spec : {M : Type 1} → statement M
