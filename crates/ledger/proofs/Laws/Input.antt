@@ -5,8 +5,8 @@ use mathlib.Core.List.{List, [], _++_}
 use Prim.Native.Nat.{ℕ, _+_, _-_, _/_, _≤_, _<_}
 use native.Mathlib.Omega.{arith}
 use borrow.Author.Tests.{le-leb, ltb-true}
-use lib.Dec.{ltb}
 use borrow.Rule.Slice.PartMut.{putMid, take-put}
+use lib.Dec.{ltb}
 use lib.ListN.{length, take, drop, length-append}
 use lib.Seq.{take-add, take-append-seam}
 use Rattle.common.proofs.Tests.{and-halves}
