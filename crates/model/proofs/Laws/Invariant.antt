@@ -30,9 +30,10 @@ use Rattle.model.specs.Lookups.{Known, isKnown, ofKnown, mandateOf, coll
 use Rattle.model.specs.Lookups.Known.{known}
 use Rattle.model.specs.Checks.{isPresented, stateFits, settledOn, timeTreated}
 use Rattle.model.specs.Effects.{dated, keepMandate, keepCollection, addCollection, withPostings, changed, presentedOn, newCollection, treated, undone, effect}
-use Rattle.model.specs.Journal.{Journal, note}
+use Rattle.model.specs.Journal.{Journal}
 use Rattle.model.proofs.Laws.Sound.{Sound, SoundWay, Passed}
 use Rattle.model.proofs.Laws.Effects.{not-known, MandateThere, mandate-there, CollectionThere, collection-there, effect-change, effect-collect, effect-treat}
+use Rattle.model.proofs.Laws.Wordings.{noteOf}
 use Rattle.model.proofs.Laws.Agree.{Agrees}
 use Rattle.model.proofs.Laws.KeptMandates.{Counts, agrees-creditor, agrees-mandate, agrees-change, agrees-collect}
 use Rattle.model.proofs.Laws.KeptTreatments.{is-presented, is-settled, creditor-entry, debtor-entry, dbank-entry, cbank-entry, agrees-settle, agrees-reject, agrees-undo}
@@ -244,7 +245,7 @@ module _ (l : Ledger) (j : Journal) (t t' : (Treatment → Bool) → ℕ → ℕ
         (cbank-entry l j t t' date a sizes n h)
 
     record Treated (tr : Treatment) : Type 0 where
-      agrees : Agrees (effect l date (Treat n tr)) (note j date (Treat n tr)) t'
+      agrees : Agrees (effect l date (Treat n tr)) (noteOf j date (Treat n tr)) t'
       balanced : Balanced (effect l date (Treat n tr))
 
     treats-kept : (tr : Treatment) → Sound (Treat n tr) → Passed l date (Treat n tr) → Counts t t' (Treat n tr) → Treated tr
@@ -269,7 +270,7 @@ module _ (l : Ledger) (j : Journal) (t t' : (Treatment → Bool) → ℕ → ℕ
               (balanced-treated (Undo way) _ (amountLimit + compensationLimit) (undo-post l date (s .safe) range n h way o u));
         }
 
-  pub sane-kept : (a : Action) → Sound a → Passed l date a → Counts t t' a → Sane (effect l date a) (note j date a) t'
+  pub sane-kept : (a : Action) → Sound a → Passed l date a → Counts t t' a → Sane (effect l date a) (noteOf j date a) t'
   unfolding effect
   sane-kept (AddCreditor a b) o p c =
       record {
@@ -282,7 +283,7 @@ module _ (l : Ledger) (j : Journal) (t t' : (Treatment → Bool) → ℕ → ℕ
       let u = not-known (mandateOf l (m .number)) (not-true (p .new)) in
       record {
         safe = safe-kept l date (s .safe) range (AddMandate m) o p;
-        agrees = agrees-mandate l j t t' date (s .agrees) m o r u c;
+        agrees = agrees-mandate l j t t' date (s .agrees) m r u c;
         balanced = same-balanced (effect l date (AddMandate m)) refl refl refl refl;
       }
   sane-kept (ChangeMandate n x) o p c =

@@ -47,7 +47,8 @@ use Rattle.model.specs.Journal.{Journal, journalFrom, journal, figureIn}
 use Rattle.model.specs.Promises.{answered, sumTo, sumOf, isUndo, isEnd, isSettle, times, UndoneInTime, CollectedLive, Kept, Demand3, MandatesNotAsked}
 use Rattle.model.proofs.Laws.Sound.{sound-event, Passed, passed}
 use Rattle.model.proofs.Laws.Effects.{mandate-there, collection-there}
-use Rattle.model.proofs.Laws.Agree.{notedOf, notedKnown, endsOf, undosOf, settlesOf, inKnown, Agrees}
+use Rattle.model.proofs.Laws.Wordings.{notedOf, note-action}
+use Rattle.model.proofs.Laws.Agree.{notedKnown, endsOf, undosOf, settlesOf, inKnown, Agrees}
 use Rattle.model.proofs.Laws.KeptTreatments.{noted-there}
 use Rattle.model.proofs.Laws.Invariant.{Sane, sane-kept, undo-facts}
 use Rattle.model.proofs.Laws.Lists.{journal-more, times-more, AllPast, past-at}
@@ -103,7 +104,7 @@ unfolding Past countsOf
 past-accepted l h e s a =
     let p = accepted-passed l e (s .safe .fits) a in
     let o = sound-event e (p .0) in
-    rw (journal-more h (entry e true))
+    rw (journal-more h (entry e true), note-action (journal h) e (p .0))
     (sane-kept l (journal h) (countsOf h) (countsOf (h ++ (entry e true ∷ []))) (e .date) s (o .0) (actionOf e) (o .1) (p .1)
     (λ sort c. times-more sort c h (entry e true)))
 
