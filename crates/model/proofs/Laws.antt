@@ -3,6 +3,7 @@ pub mod Actions  -- what an event of each kind asks for
 pub mod Views  -- what is known under a number, after a row is written
 pub mod Sound  -- an event within its limits, and what its acceptance says
 pub mod Effects  -- what an effect is where the row of its number is known
+pub mod Limits  -- the limits of the rules are dates
 pub mod Wordings  -- the journal's words and the step's say the same
 pub mod Agree  -- when a ledger and a journal agree
 pub mod KeptMandates  -- events 1 to 5 keep the agreement

@@ -6,6 +6,11 @@ use mathlib.Core.List.{List, [], _∷_, _++_}
 use Prim.Native.Nat.{ℕ, zero, suc, _+_, _≤_}
 use lib.Dec.{eqb}
 use lib.IntN.{ℤ, pos, _+ℤ_}
+use Rattle.calendar.specs.Gregorian.{inRange}
+use Rattle.calendar.specs.Target.{firstBusinessDay, lastBusinessDayBefore}
+use Rattle.calendar.specs.Periods.{daysAfter}
+use Rattle.calendar.specs.declared.DateAnswer.{DateAnswer}
+use Rattle.calendar.specs.declared.DateAnswer.the-variants.{Date}
 use Rattle.events.specs.declared.Event.{Event}
 use Rattle.tables.specs.Limits.{creditorCount, debtorCount, bankCount}
 use Rattle.tables.specs.declared.Header.{Header}
@@ -18,7 +23,7 @@ use Rattle.model.specs.declared.QueryAnswer.the-variants.{Figure, Refuse
 use Rattle.model.specs.Actions.{Action, Presentation, Treatment, Way, actionOf}
 use Rattle.model.specs.Actions.Action.{AddCreditor, AddMandate, ChangeMandate, Collect, Treat}
 use Rattle.model.specs.Actions.Treatment.{Settle, Reject, Undo}
-use Rattle.model.specs.Deadlines.{keptDue, inTime, lapsedFor}
+use Rattle.model.specs.Deadlines.{keptDue, timely, lastDay, lapseEnd}
 use Rattle.model.specs.Lookups.Known.{known}
 use Rattle.model.specs.Checks.{ruled}
 use Rattle.model.specs.Step.{inQuery, query, run, Entry, history}
@@ -69,6 +74,29 @@ unfoldable pub times : (Treatment → Bool) → ℕ → List Entry → ℕ
 times sort c [] = 0
 times sort c (x ∷ xs) = cond (x .accepted && treats sort c (actionOf (x .event))) 1 0 + times sort c xs
 
+-- ---- limits
+
+-- the limit is a date of the calendar, and the date is not after it
+pub record NotAfter (date : ℕ) (limit : DateAnswer) : Type 0 where
+  pub last : ℕ
+  pub is : limit ≡ Date last
+  pub not-after : date ≤ last
+
+-- refusal 13: the requested date is not after the 14th calendar day after the event date, and the event date not after the last
+-- business day before the kept due
+pub record InGoodTime (date requested : ℕ) : Type 0 where
+  pub soon : NotAfter requested (daysAfter (record { 0 = 14 }) date)
+  pub early : NotAfter date (lastBusinessDayBefore (keptDue requested))
+
+-- dates in range pass exactly then
+pub record PassesInGoodTime (date requested : ℕ) : Type 0 where
+  pub then : timely date requested ≡ true → InGoodTime date requested
+  pub only-then : InGoodTime date requested → timely date requested ≡ true
+
+abbrev pub Timing : Type 0
+Timing =
+    (date requested : ℕ) → inRange date ≡ true → inRange requested ≡ true → PassesInGoodTime date requested
+
 -- ---- an accepted event, by the journal just before it
 
 -- its undoing: the settle was accepted before, and the date is not after the last day by the journal's S
@@ -76,14 +104,16 @@ pub record UndoneInTime (before : List Entry) (c date : ℕ) (way : Way) : Type 
   pub settled-once : times isSettle c before ≡ 1
   pub collection : NotedCollection
   pub is-noted : journal before .collections c ≡ known collection
-  pub in-time : inTime way (collection .settled) date ≡ true
+  pub in-time : NotAfter date (lastDay way (collection .settled))
 
 -- its collect: the mandate was neither closed nor cancelled, nor lapsed for it
 pub record CollectedLive (before : List Entry) (p : Presentation) : Type 0 where
   pub mandate : NotedMandate
   pub is-noted : journal before .mandates (p .mandate) ≡ known mandate
   pub is-live : mandate .standing ≡ Live
-  pub not-lapsed : lapsedFor (keptDue (p .requested)) (mandate .presented) (mandate .signed) ≡ false
+  pub due : ℕ
+  pub is-due : firstBusinessDay (p .requested) ≡ Date due
+  pub not-lapsed : NotAfter due (lapseEnd (mandate .presented) (mandate .signed))
 
 -- ---- the claim about a list of events given to a ledger
 
