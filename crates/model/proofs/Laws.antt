@@ -17,3 +17,4 @@ pub mod Sums  -- the sum of what the ledger answers
 pub mod Theorem  -- demand 3, proved
 pub mod Batch  -- a list of events keeps the tables safe
 pub mod Grown  -- every event leaves the used rows where they are, with their numbers
+pub mod Answers  -- the answers in the paper's numbers

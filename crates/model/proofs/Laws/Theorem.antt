@@ -44,9 +44,9 @@ use Rattle.model.specs.Lookups.{Known, ofKnown, mandateOf, collectionOf}
 use Rattle.model.specs.Lookups.Known.{unknown, known}
 use Rattle.model.specs.Checks.{standsLive, ruled}
 use Rattle.model.specs.Effects.{effect}
-use Rattle.model.specs.Step.{isAccepted, thenRuled, answer, afterAnswer, after, inQuery, figureOf, query, run, Entry, entry, history}
+use Rattle.model.specs.Step.{isAccepted, thenRuled, answer, afterAnswer, after, inQuery, figureOf, query, answered, run, Entry, entry, history}
 use Rattle.model.specs.Journal.{Journal, journalFrom, journal, figureIn}
-use Rattle.model.specs.Promises.{answered, sumTo, sumOf, isUndo, isEnd, isSettle, times, NotAfter, UndoneInTime, CollectedLive, Kept, Demand3, MandatesNotAsked}
+use Rattle.model.specs.Promises.{sumTo, sumOf, isUndo, isEnd, isSettle, times, NotAfter, UndoneInTime, CollectedLive, Kept, Demand3, MandatesNotAsked}
 use Rattle.model.proofs.Laws.Sound.{Sound, sound-event, Passed, passed}
 use Rattle.model.proofs.Laws.Effects.{mandate-there, collection-there}
 use Rattle.model.proofs.Laws.Wordings.{notedOf, note-action}
