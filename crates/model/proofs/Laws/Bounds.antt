@@ -1,5 +1,5 @@
 -- The positions stay within what the collections have moved, and the sums stay zero.
--- To cite: `Bounded`, `Balanced`, `Posting` with `settle-posting` and `undo-posting`, `bounded-posted`, `balanced-posted`. Assumes nothing.
+-- To cite: `Balanced`, `Posting` with `settle-posting` and `undo-posting`, `bounded-posted`, `balanced-posted`. Assumes nothing.
 use mathlib.Core.Path.{_≡_, refl, sym, _∙_}
 use mathlib.Core.Bool.{true}
 use mathlib.Core.List.{List}
@@ -22,10 +22,10 @@ use Rattle.tables.specs.declared.Collection.{Collection}
 use Rattle.model.specs.Actions.{Way}
 use Rattle.model.specs.Actions.Way.{ByReturn, ByRefund, ByReversal}
 use Rattle.model.specs.Deadlines.{lastDay, inTime, daysSince}
+use Rattle.model.specs.Bounds.{spent, Bounded}
 use Rattle.model.specs.Effects.{dated, keepCollection, withPostings, undone}
 use Rattle.model.proofs.Laws.Sound.{SoundWay}
 use Rattle.model.proofs.Laws.Limits.{at-most-limit, longest-way, last-day-found}
-use Rattle.model.proofs.Laws.Spent.{spent}
 
 -- ---- the days of an undoing in time
 
@@ -113,14 +113,6 @@ undo-posting (ByRefund rate code) A settled date s a d =
 undo-posting ByReversal A settled date s a d = larger (omega arith) (reversed-posting A)
 
 -- ---- bounds
-
-pub record Bounded (l : Ledger) : Type 0 where
-  pub creditors : (n : ℕ) → natAbs (position (l .creditorPositions) n) ≤ spent l
-  pub debtors : (n : ℕ) → natAbs (position (l .debtorPositions) n) ≤ spent l
-  pub banks : (n : ℕ) → natAbs (position (l .bankPositions) n) ≤ spent l
-  pub cents : ℕ
-  pub paid : l .compensation ≡ pos cents
-  pub cents-le : cents ≤ spent l
 
 pub record Balanced (l : Ledger) : Type 0 where
   pub parties : total (l .creditorPositions) +ℤ total (l .debtorPositions) +ℤ l .compensation ≡ pos 0

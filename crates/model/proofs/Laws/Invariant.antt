@@ -1,5 +1,5 @@
 -- What every accepted event keeps, for any ledger and journal that agree: the tables are fit, the journal agrees, the sums are zero and
--- the positions within what the collections have moved. To cite: `Safe`, `safe-kept` (the tables alone), `Sane`, `sane-kept`, `UndoFacts` with `undo-facts`. Assumes nothing.
+-- the positions within what the collections have moved. To cite: `safe-kept` (the tables alone), `Sane`, `sane-kept`, `UndoFacts` with `undo-facts`. Assumes nothing.
 use mathlib.Core.Path.{_≡_, refl, sym, ap, subst, _∙_}
 use mathlib.Core.Bool.{Bool, true, not}
 use mathlib.Core.Logic.{_≢_}
@@ -29,6 +29,7 @@ use Rattle.model.specs.Deadlines.{inTime}
 use Rattle.model.specs.Lookups.{Known, isKnown, ofKnown, mandateOf, collectionOf}
 use Rattle.model.specs.Lookups.Known.{known}
 use Rattle.model.specs.Checks.{isPresented, stateFits, settledOn, timeTreated}
+use Rattle.model.specs.Bounds.{sumRows, moved, movedAt, spent, Bounded, Safe}
 use Rattle.model.specs.Effects.{dated, keepMandate, keepCollection, addCollection, withPostings, changed, presentedOn, newCollection, treated, undone, effect}
 use Rattle.model.specs.Journal.{Journal}
 use Rattle.model.proofs.Laws.Sound.{Sound, SoundWay, Passed}
@@ -37,14 +38,9 @@ use Rattle.model.proofs.Laws.Wordings.{noteOf}
 use Rattle.model.proofs.Laws.Agree.{Agrees}
 use Rattle.model.proofs.Laws.KeptMandates.{Counts, agrees-creditor, agrees-mandate, agrees-change, agrees-collect}
 use Rattle.model.proofs.Laws.KeptTreatments.{is-presented, is-settled, creditor-entry, debtor-entry, dbank-entry, cbank-entry, agrees-settle, agrees-reject, agrees-undo}
-use Rattle.model.proofs.Laws.Spent.{sumRows, moved, movedAt, spent, sum-treated, sum-added}
-use Rattle.model.proofs.Laws.Bounds.{Bounded, Balanced, Posting, larger, settle-posting, undo-posting, days-in-time, bounded-posted, balanced-posted}
+use Rattle.model.proofs.Laws.Spent.{sum-treated, sum-added}
+use Rattle.model.proofs.Laws.Bounds.{Balanced, Posting, larger, settle-posting, undo-posting, days-in-time, bounded-posted, balanced-posted}
 use Rattle.model.proofs.Laws.FitKept.{fit-creditor, fit-mandate-added, fit-change, fit-collect, fit-kept, fit-posted}
-
--- the tables alone: fit, and the positions within what the collections have moved
-pub record Safe (l : Ledger) : Type 0 where
-  pub fits : fit l ≡ true
-  pub bounded : Bounded l
 
 pub record Sane (l : Ledger) (j : Journal) (t : (Treatment → Bool) → ℕ → ℕ) : Type 0 where
   pub safe : Safe l
