@@ -1,4 +1,4 @@
--- A text of events: the calls for a piece of the program's input and for its end, against the run of report's specs/Run.
+-- A text of events: the call for a piece of the program's input, against the run of report's specs/Run.
 -- Assumes nothing.
 use mathlib.Core.Path.{_≡_}
 use mathlib.Core.Bool.{Bool, true, cond, _&&_}
@@ -13,12 +13,12 @@ use Rattle.events.specs.Limits.{checked}
 use Rattle.events.specs.Line.{readLine, pasted}
 use Rattle.tables.specs.declared.Header.{Header}
 use Rattle.tables.specs.Ledger.{Ledger}
-use Rattle.model.specs.declared.Answer.{Answer}
-use Rattle.model.specs.declared.Answer.the-variants.{Accepted, Refused}
+use Rattle.model.specs.declared.Answer.the-variants.{Refused}
+use Rattle.model.specs.Step.{answerNumber}
 use Rattle.index.specs.Index.{Indexed}
 use Rattle.model.specs.Bounds.{Safe}
 use Rattle.report.specs.Layout.{answerLength}
-use Rattle.report.specs.Run.{Run, runAt, kept, answerTo, afterLine, ended, toldEnded, takeText, toldText, endText, toldEnd}
+use Rattle.report.specs.Run.{Run, fitAnswer, fitNumber, runAt, kept, answerTo, afterLine, ended, toldEnded, takeText, toldText}
 use Rattle.book.specs.declared.Outcome.{Outcome}
 use Rattle.book.specs.declared.text.Progress.{Progress}
 use Rattle.book.specs.declared.text.Lines.{Lines}
@@ -69,11 +69,7 @@ pub record LinesTold (s : Run) (text out : List ℕ) (r : Lines) (l' : Ledger) (
   pub told : r .told ≡ length (toldText s text)
   pub inside : r .at ≤ length text
 
--- ---- the calls
-
--- refusal 2, or none
-abbrev pub fitAnswer : Bool → Answer
-fitAnswer fits = cond fits Accepted (Refused UnfitMemory)
+-- ---- the call
 
 abbrev pub unfitPiece : Header → ℕ → ℕ → Piece
 unfitPiece h lines filled = record { answer = Refused UnfitMemory; header = h; lines = lines; begun = filled; told = 0 }
@@ -81,6 +77,7 @@ unfitPiece h lines filled = record { answer = Refused UnfitMemory; header = h; l
 -- where lent text and buffer fit, the run comes to s and writes the bytes t to the buffer; else nothing changes
 pub record Told (fits : Bool) (l : Ledger) (lines filled : ℕ) (out : List ℕ) (s : Run) (t : List ℕ) (r : Piece) (l' : Ledger) (out' : List ℕ) : Type 0 where
   pub answer-is : r .answer ≡ fitAnswer fits
+  pub number-is : answerNumber (r .answer) ≡ fitNumber fits
   pub book-is : l' ≡ cond fits (s .book) l
   pub lines-are : r .lines ≡ cond fits (s .lines) lines
   pub begun-is : r .begun ≡ cond fits (length (s .begun)) filled
@@ -104,11 +101,3 @@ textAfter fits s text = cond fits (pasted 0 (s .begun) text) text
 pub record PieceTaken (l : Ledger) (lines filled : ℕ) (text out : List ℕ) (r : Piece) (l' : Ledger) (text' out' : List ℕ) : Type 0 where
   pub told : Told (pieceFits filled text out) l lines filled out (pieceRun l lines filled text) (pieceTold l lines filled text) r l' out'
   pub text-is : text' ≡ textAfter (pieceFits filled text out) (pieceRun l lines filled text) text
-
--- the end of the input, with the bytes of a line that has begun
-abbrev pub endFits : ℕ → List ℕ → List ℕ → Bool
-endFits filled text out = leb filled (length text) && leb answerLength (length out)
-
-abbrev pub EndTaken : Ledger → ℕ → ℕ → List ℕ → List ℕ → Piece → Ledger → List ℕ → Type 0
-EndTaken l lines filled text out r l' out' =
-    Told (endFits filled text out) l lines filled out (endText (runAt l lines (take filled text))) (toldEnd (runAt l lines (take filled text))) r l' out'

@@ -13,14 +13,14 @@ ghost use Rattle.model.specs.Step.{answerNumber};
 ghost use Rattle.report.specs.Layout.{answerLength};
 ghost use Rattle.report.specs.Run.{runAt, keptLength, kept};
 ghost use Rattle.book.specs.Events.{Taken};
-ghost use Rattle.book.specs.Text.{Sound, Known, LineTaken, AnswerRoom, LineTold, TextRoom, LinesTold, unfitPiece, PieceTaken, EndTaken};
+ghost use Rattle.book.specs.Text.{Sound, Known, LineTaken, AnswerRoom, LineTold, TextRoom, LinesTold, unfitPiece, PieceTaken};
 use crate::Outcome;
 use crate::cells::EVENT_CELLS;
-use crate::cells::event_at;
 use crate::event::take_event;
 use crate::steps::act;
 use events::Event;
 use events::limits::Checked;
+use events::line::event_in;
 use events::line::read_cells;
 use index::INDEX;
 use index::first_row;
@@ -30,15 +30,13 @@ use refusals::Refusal;
 use refusals::number_of;
 use report::cut::LineEnd;
 use report::cut::line_end;
+use report::layout::ANSWER;
+use report::layout::LAST_NUMBER;
 use report::layout::answer_line;
 use safety::is_safe;
 use tables::Header;
 
-// The most lines that are answered, the bytes of an answer, and those that are kept of a line that has begun.
-const LINES: u64 = 999_999;
-
-const ANSWER: usize = 10;
-
+// The bytes that are kept of a line that has begun.
 const KEPT: usize = 76;
 
 // The header, the lines answered and the bytes written so far.
@@ -158,7 +156,7 @@ fn take_line(
         Checked::Within => take_sound(
             known,
             header,
-            event_at(&cells, 0),
+            event_in(&cells),
             mandate_index,
             collection_index,
             mandates,
@@ -190,7 +188,7 @@ fn end_line(
     ensures { λ r. ⌜ LineTold (ledger (p .header) (now (mandates .entry)) (now (collections .entry)) (now (creditors .entry)) (now («creditor_positions» .entry)) (now («debtor_positions» .entry)) (now («bank_positions» .entry))) p (now (line .entry)) (now (out .entry)) r
         (ledger (r .header) (now (mandates .exit)) (now (collections .exit)) (now (creditors .exit)) (now («creditor_positions» .exit)) (now («debtor_positions» .exit)) (now («bank_positions» .exit))) (now (out .exit)) ⌝ }
 {
-    if p.lines >= LINES {
+    if p.lines >= LAST_NUMBER {
         return p;
     }
     let header = p.header;
@@ -310,13 +308,6 @@ fn piece_fits(filled: usize, long: usize, room: usize) -> bool
     (filled <= long) & (filled <= room / ANSWER)
 }
 
-// Whether the text is there and the buffer has room for an answer.
-fn end_fits(filled: usize, long: usize, room: usize) -> bool
-    ensures { λ r. ⌜ r ≡ leb filled long && leb answerLength room ⌝ }
-{
-    (filled <= long) & (ANSWER <= room)
-}
-
 // Refusal 2, where lent text and buffer do not fit.
 fn unfit(header: Header, lines: u64, filled: usize) -> Piece
     ensures { λ r. ⌜ r ≡ unfitPiece header lines filled ⌝ }
@@ -385,65 +376,6 @@ pub fn take_text(
         header: after,
         lines: done.lines,
         begun: begun,
-        told: done.told,
-    }
-}
-
-// Takes the end of the input: answers a line that has begun, the first `filled` bytes of the text.
-pub fn end_text(
-    header: Header,
-    lines: u64,
-    filled: usize,
-    text: &[u8],
-    out: &mut [u8],
-    mandates: &mut [u64],
-    collections: &mut [u64],
-    creditors: &mut [u64],
-    creditor_positions: &mut [i64],
-    debtor_positions: &mut [i64],
-    bank_positions: &mut [i64],
-) -> Piece
-    ensures { λ r. ⌜ EndTaken (ledger header (now (mandates .entry)) (now (collections .entry)) (now (creditors .entry)) (now («creditor_positions» .entry)) (now («debtor_positions» .entry)) (now («bank_positions» .entry))) lines filled (now (text .entry)) (now (out .entry)) r
-        (ledger (r .header) (now (mandates .exit)) (now (collections .exit)) (now (creditors .exit)) (now («creditor_positions» .exit)) (now («debtor_positions» .exit)) (now («bank_positions» .exit))) (now (out .exit)) ⌝ }
-{
-    if !end_fits(filled, text.len(), out.len()) {
-        return unfit(header, lines, filled);
-    }
-    if filled == 0 {
-        return Piece {
-            answer: Answer::Accepted,
-            header: header,
-            lines: lines,
-            begun: 0,
-            told: 0,
-        };
-    }
-    let start = Progress {
-        header: header,
-        lines: lines,
-        told: 0,
-    };
-    let no_index = [0; INDEX];
-    let done = end_line(
-        false,
-        start,
-        &text[..filled],
-        out,
-        &no_index,
-        &no_index,
-        mandates,
-        collections,
-        creditors,
-        creditor_positions,
-        debtor_positions,
-        bank_positions,
-    );
-    let after = done.header;
-    Piece {
-        answer: Answer::Accepted,
-        header: after,
-        lines: done.lines,
-        begun: 0,
         told: done.told,
     }
 }

@@ -7,7 +7,7 @@ ghost use lib.Dec.{ltb};
 ghost use lib.ListN.{length, take, drop};
 ghost use Rattle.events.specs.declared.line.FieldAnswer.the-variants.{Value, NoValue};
 ghost use Rattle.events.specs.Limits.{checkedNumber};
-ghost use Rattle.events.specs.Line.{lineLength, widths, isDigit, readField, readFields, taken, readLine, checkedLine, cellsBy, lastDigit, fieldBytes, pasted, lineOf, writeAnswer, bytesAfter, lineNumber, writeNumber, readerNumber, writerNumber};
+ghost use Rattle.events.specs.Line.{eventOf, lineLength, widths, isDigit, readField, readFields, taken, readLine, checkedLine, cellsBy, lastDigit, fieldBytes, pasted, lineOf, writeAnswer, bytesAfter, lineNumber, writeNumber, readerNumber, writerNumber};
 ghost use Rattle.events.specs.Words.{bytesOf, none, numberIn, areDigits, digitsFrom, ledBy, onward};
 use crate::Event;
 use crate::limits::Checked;
@@ -345,6 +345,23 @@ pub fn read_cells(line: &[u8], cells: &mut [u64; FIELDS]) -> Checked
     fields(line, cells)
 }
 
+// The event whose fields stand in nine cells.
+pub fn event_in(cells: &[u64; FIELDS]) -> Event
+    ensures { λ r. ⌜ r ≡ eventOf (now (cells .entry)) ⌝ }
+{
+    Event {
+        kind: cells[0],
+        date: cells[1],
+        mandate: cells[2],
+        a: cells[3],
+        b: cells[4],
+        c: cells[5],
+        amount: cells[6],
+        second: cells[7],
+        code: cells[8],
+    }
+}
+
 // The event of a line, or refusal 1, 3, 4 or 5.
 pub fn read(line: &[u8]) -> LineAnswer
     ensures answer { λ r. ⌜ r ≡ readLine (now (line .entry)) ⌝ }
@@ -353,17 +370,7 @@ pub fn read(line: &[u8]) -> LineAnswer
     let mut cells = [0; FIELDS];
     match read_cells(line, &mut cells) {
         Checked::Refused(r) => LineAnswer::Refused(r),
-        Checked::Within => LineAnswer::Taken(Event {
-            kind: cells[0],
-            date: cells[1],
-            mandate: cells[2],
-            a: cells[3],
-            b: cells[4],
-            c: cells[5],
-            amount: cells[6],
-            second: cells[7],
-            code: cells[8],
-        }),
+        Checked::Within => LineAnswer::Taken(event_in(&cells)),
     }
 }
 

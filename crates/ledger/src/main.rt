@@ -1,10 +1,10 @@
 // The program `ledger` of document 01, "The text line": events from standard input, one a line; to standard output an
 // answer for each line, then the positions and the total compensation. It reads and writes; what the bytes mean, what is
 // answered to them and how that is written is in the libraries, proved.
-use book::text::end_text;
 use book::text::take_text;
 use libc::STDIN_FILENO;
 use libc::STDOUT_FILENO;
+use report::ending::end_text;
 use report::listing::list_positions;
 use tables::Header;
 use tables::OpenAnswer;
@@ -123,7 +123,6 @@ fn take_input(
 // Answers a line that has begun where the input ends, and lists the positions.
 fn finish(
     p: Progress,
-    text: &[u8],
     out: &mut [u8],
     mandates: &mut [u64],
     collections: &mut [u64],
@@ -133,24 +132,10 @@ fn finish(
     bank_positions: &mut [i64],
 ) {
     let header = p.header;
-    let piece = end_text(
-        header,
-        p.lines,
-        p.begun,
-        text,
-        out,
-        mandates,
-        collections,
-        creditors,
-        creditor_positions,
-        debtor_positions,
-        bank_positions,
-    );
-    let last = piece.header;
-    let told = piece.told;
-    if tell(out, told) {
+    let end = end_text(p.lines, p.begun, out);
+    if tell(out, end.told) {
         let listing = list_positions(
-            last,
+            header,
             mandates,
             collections,
             creditors,
@@ -198,7 +183,6 @@ fn run_by(
     }
     finish(
         p,
-        text,
         out,
         mandates,
         collections,

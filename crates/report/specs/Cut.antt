@@ -1,9 +1,8 @@
 -- Where a line of the input ends. Document 01, "The text line": at a byte 10 and nowhere else. Bytes are numbers.
 -- To cite: proofs/Laws/Cut. Assumes nothing.
-use mathlib.Core.Bool.{Bool}
+use mathlib.Core.Bool.{Bool, true, false}
 use mathlib.Core.List.{List}
-use mathlib.Core.Logic.{_≢_}
-use Prim.Native.Nat.{ℕ, _-_, _<_}
+use Prim.Native.Nat.{ℕ, _-_}
 use lib.Dec.{eqb}
 use lib.ListN.{length, getD}
 use Rattle.common.specs.Walk.{firstFrom}
@@ -18,6 +17,10 @@ endsAt text i = eqb (getD text i 0) lineEnd
 unfoldable pub endFrom : List ℕ → ℕ → LineEnd
 endFrom text from = firstFrom (endsAt text) At NoEnd from (length text - from)
 
--- no byte of it ends a line
-abbrev pub Endless : List ℕ → Type 0
-Endless text = (j : ℕ) → j < length text → getD text j 0 ≢ lineEnd
+abbrev pub isNone : LineEnd → Bool
+isNone NoEnd = true
+isNone (At i) = false
+
+abbrev pub isAt : ℕ → LineEnd → Bool
+isAt k NoEnd = false
+isAt k (At i) = eqb i k

@@ -2,4 +2,5 @@
 pub mod Cut  -- where a line of the input ends
 pub mod Layout  -- the lines that the program writes
 pub mod Run  -- the whole run: bytes in, bytes out
+pub mod Lines  -- a text by its lines
 pub mod Promises  -- what is promised of a run

@@ -1,5 +1,5 @@
 -- The run of the program `ledger`: the bytes of its input one after the other, and what it writes. Document 01, "The text line".
--- What the pieces that an input comes in and the lines of a text have to do with it: specs/Promises. Assumes nothing.
+-- What the lines of a text and the pieces that an input comes in have to do with it: specs/Promises. Assumes nothing.
 use mathlib.Core.Path.{_≡_}
 use mathlib.Core.Bool.{Bool, cond, _&&_}
 use mathlib.Core.List.{List, [], _∷_, _++_}
@@ -7,8 +7,8 @@ use Prim.Native.Nat.{ℕ, zero, suc, _+_, _*_}
 use lib.Dec.{eqb, ltb, leb}
 use lib.IntN.{ℤ, pos, negsuc}
 use lib.ListN.{take, length}
-use Rattle.refusals.specs.declared.Refusal.the-variants.{UnfitMemory}
-use Rattle.events.specs.declared.Event.{Event}
+use Rattle.refusals.specs.Refusals.{numberOf}
+use Rattle.refusals.specs.declared.Refusal.the-variants.{BadLine, UnfitMemory}
 use Rattle.events.specs.declared.line.LineAnswer.{LineAnswer}
 use Rattle.events.specs.declared.line.LineAnswer.the-variants as lines
 use Rattle.events.specs.Line.{lineEnd, lineLength, readLine, pasted}
@@ -20,8 +20,9 @@ use Rattle.model.specs.declared.Answer.{Answer}
 use Rattle.model.specs.declared.Answer.the-variants.{Accepted, Refused}
 use Rattle.model.specs.Step.{answerNumber, answer, after, figureOf}
 use Rattle.model.specs.Journal.{Journal, figureIn}
+use Rattle.report.specs.declared.ending.Ending.{Ending}
 use Rattle.report.specs.declared.listing.Listing.{Listing}
-use Rattle.report.specs.Layout.{lastNumber, answerLine, positionLine, positionLength}
+use Rattle.report.specs.Layout.{lastNumber, answerLine, answerLength, positionLine, positionLength}
 
 -- ---- a line: what the reader refuses, or what the ledger answers to the event
 
@@ -32,6 +33,14 @@ answerTo l (lines.Refused r) = Refused r
 abbrev pub afterLine : Ledger → LineAnswer → Ledger
 afterLine l (lines.Taken e) = after l e
 afterLine l (lines.Refused r) = l
+
+-- ---- a call: accepted where lent memory fits, else refused with 2
+
+abbrev pub fitAnswer : Bool → Answer
+fitAnswer fits = cond fits Accepted (Refused UnfitMemory)
+
+abbrev pub fitNumber : Bool → ℕ
+fitNumber fits = cond fits 0 (numberOf UnfitMemory)
 
 -- ---- how far a run is
 
@@ -84,27 +93,34 @@ unfoldable pub toldText : Run → List ℕ → List ℕ
 toldText r [] = []
 toldText r (b ∷ bs) = toldByte r b ++ toldText (takeByte r b) bs
 
--- the events of a text, those of its answered lines that the reader takes
-abbrev pub eventIn : LineAnswer → List Event
-eventIn (lines.Taken e) = e ∷ []
-eventIn (lines.Refused r) = []
+-- ---- the end of the input: bytes of a line that has not ended are a line refused 1, one of the 999,999
 
-abbrev pub eventsEnded : Run → List ℕ → List Event
-eventsEnded r line = cond (ltb (r .lines) lastNumber) (eventIn (readLine line)) []
+abbrev pub endsLine : ℕ → ℕ → Bool
+endsLine lines begun = ltb lines lastNumber && ltb 0 begun
 
-abbrev pub eventsByte : Run → ℕ → List Event
-eventsByte r b = cond (eqb b lineEnd) (eventsEnded r (kept (r .begun ++ (b ∷ [])))) []
+-- the lines answered then, and what is written, by the lines answered before and the number of bytes begun
+abbrev pub endLines : ℕ → ℕ → ℕ
+endLines lines begun = cond (endsLine lines begun) (lines + 1) lines
 
-unfoldable pub eventsText : Run → List ℕ → List Event
-eventsText r [] = []
-eventsText r (b ∷ bs) = eventsByte r b ++ eventsText (takeByte r b) bs
+abbrev pub endTold : ℕ → ℕ → List ℕ
+endTold lines begun = cond (endsLine lines begun) (answerLine (lines + 1) (numberOf BadLine)) []
 
--- the end of the input ends a line that has begun
 abbrev pub endText : Run → Run
-endText r = cond (eqb (length (r .begun)) 0) r (ended r (r .begun))
+endText r = runAt (r .book) (endLines (r .lines) (length (r .begun))) []
 
 abbrev pub toldEnd : Run → List ℕ
-toldEnd r = cond (eqb (length (r .begun)) 0) [] (toldEnded r (r .begun))
+toldEnd r = endTold (r .lines) (length (r .begun))
+
+-- a buffer without room for an answer is refused, and nothing is written
+abbrev pub endFits : List ℕ → Bool
+endFits out = leb answerLength (length out)
+
+pub record EndTaken (lines begun : ℕ) (out : List ℕ) (r : Ending) (out' : List ℕ) : Type 0 where
+  pub answer-is : r .answer ≡ fitAnswer (endFits out)
+  pub number-is : answerNumber (r .answer) ≡ fitNumber (endFits out)
+  pub lines-are : r .lines ≡ cond (endFits out) (endLines lines begun) lines
+  pub told-is : r .told ≡ cond (endFits out) (length (endTold lines begun)) 0
+  pub out-is : out' ≡ cond (endFits out) (pasted 0 (endTold lines begun) out) out
 
 -- ---- the positions
 
@@ -152,6 +168,7 @@ toldTable kind positions n = toldFigures kind (position positions) n
 
 -- the listing, or refusal 2 and nothing written
 pub record Listed (l : Ledger) (out : List ℕ) (r : Listing) (out' : List ℕ) : Type 0 where
-  pub answer-is : r .answer ≡ cond (listed l out) Accepted (Refused UnfitMemory)
+  pub answer-is : r .answer ≡ fitAnswer (listed l out)
+  pub number-is : answerNumber (r .answer) ≡ fitNumber (listed l out)
   pub bytes-are : r .bytes ≡ cond (listed l out) (length (toldPositions l)) 0
   pub out-is : out' ≡ cond (listed l out) (pasted 0 (toldPositions l) out) out

@@ -1,10 +1,8 @@
 // Where a line of the input ends: specs/Cut.
 ghost use mathlib.Core.Path.{_≡_};
-ghost use mathlib.Core.Bool.{true};
 ghost use Prim.Native.Nat.{_+_};
 ghost use Rattle.events.specs.Line.{columns};
-ghost use Rattle.report.specs.Cut.{Endless, endFrom};
-ghost use Rattle.report.specs.declared.cut.LineEnd.the-variants.{At};
+ghost use Rattle.report.specs.Cut.{endFrom, isNone, isAt};
 
 // The place of the byte that ends a line.
 pub enum LineEnd {
@@ -22,7 +20,7 @@ const STEP: usize = 16;
 
 // Whether no byte ends a line. The loop has no other way out, so that many bytes can be compared at a time.
 fn is_endless(text: &[u8]) -> bool
-    ensures { λ r. ⌜ (r ≡ true → Endless (now (text .entry))) ⌝ }
+    ensures { λ r. ⌜ r ≡ isNone (endFrom (now (text .entry)) 0) ⌝ }
 {
     let mut none = true;
     let mut i: usize = 0;
@@ -35,7 +33,7 @@ fn is_endless(text: &[u8]) -> bool
 
 // Whether the line from a place on ends where a sound line does.
 fn ends_soundly(text: &[u8], from: usize) -> bool
-    ensures { λ r. ⌜ (r ≡ true → endFrom (now (text .entry)) from ≡ At (from + columns)) ⌝ }
+    ensures { λ r. ⌜ r ≡ isAt (from + columns) (endFrom (now (text .entry)) from) ⌝ }
 {
     if text.len() <= COLUMNS {
         return false;

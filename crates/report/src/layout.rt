@@ -17,12 +17,12 @@ pub enum Placed {
 }
 
 // The bytes of an answer line and of a position line.
-const ANSWER: usize = 10;
+pub const ANSWER: usize = 10;
 
 pub const POSITION: usize = 27;
 
 // The largest number of a line or a party, the largest answer and the largest kind.
-const LAST_NUMBER: u64 = 999_999;
+pub const LAST_NUMBER: u64 = 999_999;
 
 const LAST_ANSWER: u64 = 999;
 

@@ -2,20 +2,18 @@
 -- `Telling` with `telling-start`, `telling-line`, `telling-end`. Assumes nothing.
 use mathlib.Core.Path.{_≡_, refl, sym, ap, _∙_}
 use mathlib.Core.Bool.{Bool, true, false, cond}
-use mathlib.Core.Logic.{⊎-elim, _≢_}
+use mathlib.Core.Logic.{_≢_}
 use mathlib.Core.List.{List, [], _∷_, _++_, append-assoc}
 use Prim.Native.Nat.{ℕ, suc, _+_, _-_, _*_, _/_, _≤_, _<_, min}
 use native.Mathlib.Nat.{add-zero, zero-add, add-comm}
 use native.Mathlib.Numerals.{add-one}
 use native.Mathlib.Omega.{arith}
-use borrow.Author.Tests.{lt-ltb, le-ltb, le-leb, leb-true, eq-eqb, ne-eqb}
-use lib.Dec.{eqb, ltb, leb}
+use borrow.Author.Tests.{lt-ltb, le-ltb, leb-true}
+use lib.Dec.{ltb, leb}
 use lib.ListN.{length, take, drop, getD, set, length-append, length-take, length-drop, take-append-drop}
 use lib.Seq.{length-take-le, take-suc, drop-cons, set-at, getD-drop, getD-append-add, getD-take, ext-getD}
 use Rattle.common.proofs.Tests.{and-halves}
 use Rattle.refusals.specs.declared.Refusal.{Refusal}
-use Rattle.refusals.specs.Refusals.{numberOf}
-use Rattle.refusals.specs.declared.Refusal.the-variants.{UnfitMemory}
 use Rattle.refusals.proofs.Laws.Refusals.{numberOf-most}
 use Rattle.events.specs.declared.Event.{Event}
 use Rattle.events.specs.declared.limits.Checked.{Checked}
@@ -23,7 +21,7 @@ use Rattle.events.specs.declared.limits.Checked.the-variants as events
 use Rattle.events.specs.declared.line.LineAnswer.{LineAnswer}
 use Rattle.events.specs.declared.line.LineAnswer.the-variants as lines
 use Rattle.events.specs.Limits.{checked}
-use Rattle.events.specs.Line.{fieldsOf, lineEnd, readLine, cellsAnswer, cellsAfter, pasted}
+use Rattle.events.specs.Line.{eventOf, lineEnd, readLine, checkedLine, cellsBy, pasted}
 use Rattle.events.proofs.Laws.Promises.{cells-taken}
 use Rattle.tables.specs.declared.Header.{Header}
 use Rattle.tables.specs.Ledger.{Ledger}
@@ -40,27 +38,22 @@ use Rattle.report.proofs.Laws.Layout.{length-answerLine, pasted-next, answerFit
 use Rattle.report.proofs.Laws.Run.{Answering, answering-start, answering-line, rest-after, rest-told}
 use Rattle.book.specs.declared.Outcome.{Outcome}
 use Rattle.book.specs.Events.{Taken}
-use Rattle.book.specs.Replay.{eventAt}
 use Rattle.book.specs.declared.text.Progress.{Progress}
 use Rattle.book.specs.declared.text.Lines.{Lines}
-use Rattle.book.specs.Text.{Prepared, Known, LineTaken, LineTold, LinesTold, unfitPiece, pieceFits, PieceTaken, endFits, EndTaken}
+use Rattle.book.specs.Text.{Prepared, Known, LineTaken, LineTold, LinesTold, unfitPiece, pieceFits, PieceTaken}
 
 -- ---- a line
 
-event-fields : (x : Event) → eventAt (fieldsOf x) 0 ≡ x
-unfolding eventAt
-event-fields x = refl
-
 -- the event of a line, by way of the cells that it was read into
 pub line-event : (line cells cells' : List ℕ) (a : Checked) (e : Event)
-    → a ≡ cellsAnswer line cells
-    → cells' ≡ cellsAfter line cells
+    → a ≡ checkedLine (readLine line)
+    → cells' ≡ cellsBy (readLine line) cells
     → a ≡ events.Within
-    → e ≡ eventAt cells' 0
+    → e ≡ eventOf cells'
     → (readLine line ≡ lines.Taken e) × (checked e ≡ events.Within)
 line-event line cells cells' a e p q w g =
     let t = cells-taken line cells (sym p ∙ w) in
-    let i : e ≡ t .event = g ∙ ap (λ (x : List ℕ). eventAt x 0) (q ∙ t .is-cells) ∙ event-fields (t .event) in
+    let i : e ≡ t .event = g ∙ ap eventOf (q ∙ t .is-cells) in
     (t .is-read ∙ ap lines.Taken (sym i), ap checked i ∙ t .is-within)
 
 module _ (l : Ledger) (line : List ℕ) where
@@ -295,7 +288,7 @@ module _ (l : Ledger) (lines filled : ℕ) (text out : List ℕ) where
   pub piece-refused : (h : Header) → pieceFits filled text out ≡ false → PieceTaken l lines filled text out (unfitPiece h lines filled) l text out
   piece-refused h f =
       record {
-        told = record { answer-is = rw f; book-is = rw f; lines-are = rw f; begun-is = rw f; told-is = rw f; out-is = rw f };
+        told = record { answer-is = rw f; number-is = rw f; book-is = rw f; lines-are = rw f; begun-is = rw f; told-is = rw f; out-is = rw f };
         text-is = rw f;
       }
 
@@ -310,6 +303,7 @@ module _ (l : Ledger) (lines filled : ℕ) (text out : List ℕ) where
         told =
             record {
               answer-is = rw f;
+              number-is = rw f;
               book-is = rw (f, t .run);
               lines-are = rw (f, t .run);
               begun-is = rw (f, t .run) b;
@@ -317,55 +311,4 @@ module _ (l : Ledger) (lines filled : ℕ) (text out : List ℕ) where
               out-is = rw f (t .bytes);
             };
         text-is = rw (f, t .run) w;
-      }
-
--- ---- the call for the end
-
-module _ (filled : ℕ) (text out : List ℕ) (fits : endFits filled text out ≡ true) where
-  pub end-long : filled ≤ length text
-  end-long = leb-true filled (length text) (and-halves (leb filled (length text)) fits .0)
-
-  pub end-count : filled ≡ length (take filled text)
-  end-count = sym (length-take-le filled text end-long)
-
-  pub end-room : 0 + answerLength ≤ length out
-  end-room = leb-true answerLength (length out) (and-halves (leb filled (length text)) fits .1)
-
-module _ (l : Ledger) (lines filled : ℕ) (text out : List ℕ) (h : Header) where
-  pub end-refused : endFits filled text out ≡ false → EndTaken l lines filled text out (unfitPiece h lines filled) l out
-  end-refused f =
-      record { answer-is = rw f; book-is = rw f; lines-are = rw f; begun-is = rw f; told-is = rw f; out-is = rw f }
-
-  -- no line has begun
-  pub end-none : endFits filled text out ≡ true → filled ≡ 0 → EndTaken l lines filled text out (record { answer = Accepted; header = h; lines = lines; begun = 0; told = 0 }) l out
-  end-none f z =
-      let e : eqb (length (take filled text)) 0 ≡ true = eq-eqb (length (take filled text)) 0 (sym (end-count filled text out f) ∙ z) in
-      record {
-        answer-is = rw f;
-        book-is = rw (f, e);
-        lines-are = rw (f, e);
-        begun-is = rw (f, e) (sym (sym (end-count filled text out f) ∙ z));
-        told-is = rw (f, e);
-        out-is = rw (f, e);
-      }
-
-  -- a line has begun
-  pub end-told : (p d : Progress) (l' : Ledger) (out' : List ℕ)
-      → endFits filled text out ≡ true
-      → filled ≢ 0
-      → p .lines ≡ lines
-      → p .told ≡ 0
-      → LineTold l p (take filled text) out d l' out'
-      → EndTaken l lines filled text out (record { answer = Accepted; header = h; lines = d .lines; begun = 0; told = d .told }) l' out'
-  end-told p d l' out' f n q z t =
-      let e : eqb (length (take filled text)) 0 ≡ false = ne-eqb (length (take filled text)) 0 (λ x. n (end-count filled text out f ∙ x)) in
-      let line = take filled text in
-      let run : runAt l' (d .lines) [] ≡ ended (runAt l lines line) line = rw (← q) (t .run) in
-      record {
-        answer-is = rw f;
-        book-is = rw (f, e) (ap (λ (x : Run). x .book) run);
-        lines-are = rw (f, e) (ap (λ (x : Run). x .lines) run);
-        begun-is = rw (f, e) (ap (λ (x : Run). length (x .begun)) run);
-        told-is = rw (f, e, ← q) (t .told ∙ ap (λ (x : ℕ). x + length (toldEnded (runAt l (p .lines) []) line)) z ∙ zero-add _);
-        out-is = rw (f, e, ← q) (t .bytes ∙ ap (λ (x : ℕ). pasted x (toldEnded (runAt l (p .lines) []) line) out) z);
       }

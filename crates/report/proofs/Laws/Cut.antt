@@ -1,23 +1,27 @@
--- Laws of specs/Cut. To cite: `FirstEnd` with `endFrom-at`, `endFrom-none`, `endFrom-first`, `endFrom-past`, and `endFrom-cases`, from which both follow.
--- Assumes nothing.
+-- Laws of specs/Cut. To cite: `FirstEnd` with `endFrom-at`, `endFrom-none`, `endFrom-first`, `endFrom-past`, and `endFrom-cases`, from which both
+-- follow; `Endless` with `isNone-endless`. The rest serves the functions of src/cut.rt. Assumes nothing.
 use mathlib.Core.Path.{_≡_, refl, sym, ap, _∙_}
-use mathlib.Core.Bool.{Bool, true, false, not, _&&_}
+use mathlib.Core.Bool.{Bool, true, false, not, _&&_, and-true, and-false}
 use mathlib.Core.List.{List}
 use mathlib.Core.Logic.{⊎-elim, _≢_}
 use Prim.Native.Nat.{ℕ, _+_, _-_, _≤_, _<_}
 use native.Mathlib.Nat.{eq-or-lt-of-le}
 use native.Mathlib.Omega.{arith}
-use borrow.Author.Tests.{eqb-true, eqb-false, leb-true, leb-false}
-use lib.Dec.{eqb, leb}
-use lib.ListN.{length, take, drop, getD, length-drop}
+use borrow.Author.Tests.{eq-eqb, eqb-true, eqb-false, leb-true, leb-false}
+use lib.Dec.{leb}
+use lib.ListN.{length, take, drop, getD, length-take, length-drop}
 use lib.Seq.{length-take-le, getD-take, getD-drop}
 use Rattle.common.specs.Walk.{firstFrom}
-use Rattle.common.proofs.Tests.{true-or-false, and-halves, not-true}
-use Rattle.common.proofs.Walk.{cases-from}
+use Rattle.common.proofs.Tests.{never, true-or-false, false-unless}
+use Rattle.common.proofs.Walk.{firstFrom-hit, firstFrom-miss, firstFrom-end, cases-from}
 use Rattle.events.specs.Line.{lineEnd}
 use Rattle.report.specs.declared.cut.LineEnd.{LineEnd}
 use Rattle.report.specs.declared.cut.LineEnd.the-variants.{At, NoEnd}
-use Rattle.report.specs.Cut.{Endless, endsAt, endFrom}
+use Rattle.report.specs.Cut.{endsAt, endFrom, isNone, isAt}
+
+-- no byte of it ends a line
+abbrev pub Endless : List ℕ → Type 0
+Endless text = (j : ℕ) → j < length text → getD text j 0 ≢ lineEnd
 
 -- the first end of a line from a place on is at k
 pub record FirstEnd (text : List ℕ) (from k : ℕ) : Type 0 where
@@ -84,24 +88,6 @@ module _ (text : List ℕ) (from : ℕ) where
           (λ (h : leb k i ≡ false). absurd (f .none-before i (g .onward) (leb-false k i h) (g .ends)))
           (true-or-false (leb k i))
 
-  -- a line that ends where a sound one does
-  pub endFrom-sound : (k : ℕ) → from + k < length text → getD text (from + k) 0 ≡ lineEnd → Endless (take (from + k - from) (drop from text)) → endFrom text from ≡ At (from + k)
-  endFrom-sound k h e none =
-      endFrom-first (from + k)
-      (record {
-        onward = omega arith;
-        inside = h;
-        ends = e;
-        none-before = λ j lo hi q.
-            let d = length-drop from text in
-            let m : from + (j - from) ≡ j = omega arith in
-            none (j - from) (omega (arith, length-take-le (from + k - from) (drop from text) (omega arith)))
-            (getD-take (from + k - from) (drop from text) (j - from) 0 (omega arith)
-            ∙ getD-drop from text (j - from) 0
-            ∙ ap (λ (i : ℕ). getD text i 0) m
-            ∙ q);
-      })
-
 -- bytes that end no line are passed over
 module _ (text : List ℕ) (from k : ℕ) (h : from + k ≤ length text) (none : Endless (take (from + k - from) (drop from text))) where
   endless-before : (j : ℕ) → from ≤ j → j < from + k → getD text j 0 ≢ lineEnd
@@ -139,18 +125,74 @@ module _ (text : List ℕ) (from k : ℕ) (h : from + k ≤ length text) (none :
       (λ g.
       endFrom-cases text from (λ (a : LineEnd). NoEnd ≡ a) (λ i f. absurd (none-at-all g i (f .onward) (f .inside) (f .ends))) (λ n. refl))
 
--- ---- bytes that end no line, one after the other
+  -- a line that ends behind them
+  endFrom-behind : from + k < length text → getD text (from + k) 0 ≡ lineEnd → endFrom text from ≡ At (from + k)
+  endFrom-behind l e =
+      endFrom-first text from (from + k) (record { onward = omega arith; inside = l; ends = e; none-before = endless-before })
 
-abbrev pub EndlessTo : List ℕ → ℕ → Type 0
-EndlessTo text i = (j : ℕ) → j < i → getD text j 0 ≢ lineEnd
+-- ---- the answers of the code
 
-pub endless-next : (text : List ℕ) (i : ℕ) (none : Bool)
-    → (none ≡ true → EndlessTo text i)
-    → none && not (eqb (getD text i 0) lineEnd) ≡ true
-    → EndlessTo text (i + 1)
-endless-next text i none e t j h =
-    let p = and-halves none t in
+none-is : (a : LineEnd) → isNone a ≡ true → a ≡ NoEnd
+none-is NoEnd e = refl
+none-is (At i) e = absurd (never e refl)
+
+pub isAt-true : (k : ℕ) (a : LineEnd) → isAt k a ≡ true → a ≡ At k
+isAt-true k NoEnd e = absurd (never e refl)
+isAt-true k (At i) e = ap At (eqb-true i k e)
+
+pub isNone-endless : (text : List ℕ) → isNone (endFrom text 0) ≡ true → Endless text
+isNone-endless text e j h = endFrom-none text 0 (none-is (endFrom text 0) e) j (omega arith) h
+
+endless-none : (text : List ℕ) → Endless text → isNone (endFrom text 0) ≡ true
+endless-none text e =
+    endFrom-cases text 0 (λ (a : LineEnd). isNone a ≡ true) (λ k f. absurd (e k (f .inside) (f .ends))) (λ n. refl)
+
+-- one byte more that ends no line
+pub none-step : (text : List ℕ) (i : ℕ) (none : Bool) → i < length text → (none && not (endsAt text i)) && isNone (endFrom text (i + 1)) ≡ none && isNone (endFrom text i)
+none-step text i none h =
     ⊎-elim
-    (λ (q : j ≡ i). λ x. eqb-false (getD text i 0) lineEnd (not-true (p .1)) (ap (λ (k : ℕ). getD text k 0) (sym q) ∙ x))
-    (λ (l : j < i). e (p .0) j l)
-    (eq-or-lt-of-le (omega arith))
+    (λ (e : endsAt text i ≡ true).
+    let f : endFrom text i ≡ At i = sym (endFrom-walk text i) ∙ firstFrom-hit (endsAt text) At NoEnd i (length text) h e in
+    rw (e, f, and-false none))
+    (λ (e : endsAt text i ≡ false).
+    let f : endFrom text i ≡ endFrom text (i + 1) =
+    sym (endFrom-walk text i) ∙ firstFrom-miss (endsAt text) At NoEnd i (length text) h e ∙ endFrom-walk text (i + 1) in
+    rw (e, f, and-true none))
+    (true-or-false (endsAt text i))
+
+pub none-end : (text : List ℕ) (i : ℕ) (none : Bool) → length text ≤ i → none ≡ none && isNone (endFrom text i)
+none-end text i none h =
+    let f : endFrom text i ≡ NoEnd = sym (endFrom-walk text i) ∙ firstFrom-end (endsAt text) At NoEnd i (length text) h in
+    rw (f, and-true none)
+
+-- the line from a place on does not end k bytes on: the text is too short, or another byte stands there
+module _ (text : List ℕ) (from k : ℕ) where
+  pub not-short : length text ≤ from + k → false ≡ isAt (from + k) (endFrom text from)
+  not-short h =
+      sym
+      (false-unless _ (λ e. omega (arith, endFrom-at text from (from + k) (isAt-true (from + k) (endFrom text from) e) .inside)))
+
+  pub not-other : getD text (from + k) 0 ≢ lineEnd → false ≡ isAt (from + k) (endFrom text from)
+  not-other h =
+      sym (false-unless _ (λ e. h (endFrom-at text from (from + k) (isAt-true (from + k) (endFrom text from) e) .ends)))
+
+  -- it does if there is no end before
+  pub none-before-is : from + k < length text → getD text (from + k) 0 ≡ lineEnd → isNone (endFrom (take (from + k - from) (drop from text)) 0) ≡ isAt (from + k) (endFrom text from)
+  none-before-is h g =
+      let part = take (from + k - from) (drop from text) in
+      ⊎-elim
+      (λ (e : isNone (endFrom part 0) ≡ true).
+      let f : endFrom text from ≡ At (from + k) = endFrom-behind text from k (omega arith) (isNone-endless part e) h g in
+      rw (e, f) (sym (eq-eqb (from + k) (from + k) refl)))
+      (λ (e : isNone (endFrom part 0) ≡ false).
+      e
+      ∙ sym
+      (false-unless (isAt (from + k) (endFrom text from))
+      (λ q. never (endless-none part (part-endless (endFrom-at text from (from + k) (isAt-true (from + k) (endFrom text from) q)))) e)))
+      (true-or-false (isNone (endFrom part 0)))
+    where
+      part-endless : FirstEnd text from (from + k) → Endless (take (from + k - from) (drop from text))
+      part-endless f j l q =
+          let n = length-take (from + k - from) (drop from text) in
+          f .none-before (from + j) (omega arith) (omega arith)
+          (sym (getD-drop from text j 0) ∙ sym (getD-take (from + k - from) (drop from text) j 0 (omega arith)) ∙ q)

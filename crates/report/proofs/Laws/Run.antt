@@ -1,27 +1,24 @@
--- Laws of specs/Run. To cite: `line-by-line`, `piece-by-piece` (specs/Promises); for a run over the lines of a text `Answering` with
--- `answering-start`, `answering-line`, `answering-rest`. Of a listing: Laws/Listing. Assumes nothing.
+-- Laws of specs/Run. To cite: `one-line`; `piece-by-piece` for two pieces and `in-pieces` (specs/Promises) for any number; for a run over
+-- the lines of a text `Answering` with `answering-start`, `answering-line`, `rest-after`. Of a listing: Laws/Listing. Assumes nothing.
 use mathlib.Core.Path.{_≡_, refl, sym, ap, _∙_}
 use mathlib.Core.Bool.{Bool, true, false, cond}
 use mathlib.Core.Logic.{⊎-elim, _≢_}
 use mathlib.Core.List.{List, [], _∷_, _++_, append-assoc, append-nil}
-use Prim.Native.Nat.{ℕ, zero, suc, _+_, _-_, _≤_, _<_}
+use Prim.Native.Nat.{ℕ, suc, _+_, _-_, _≤_, _<_}
 use native.Mathlib.Nat.{eq-or-lt-of-le}
-use native.Mathlib.Numerals.{add-one}
 use native.Mathlib.Omega.{arith}
-use borrow.Author.Tests.{eq-eqb, ne-eqb, eqb-true, eqb-false, leb-true, leb-false}
+use borrow.Author.Tests.{ne-eqb, eqb-false, leb-true, leb-false}
 use lib.Dec.{eqb, leb, ltb}
 use lib.ListN.{length, take, drop, getD, length-append, length-take, length-drop, take-append-drop, List·getD-append}
 use lib.Seq.{take-all, take-append-le, take-take, length-take-le, take-add, take-suc, getD-take, getD-drop, getD-append-seam}
 use Rattle.common.proofs.Tests.{true-or-false}
-use Rattle.events.specs.declared.line.LineAnswer.{LineAnswer}
-use Rattle.events.specs.Line.{lineEnd, lineLength, readLine}
+use Rattle.events.specs.Line.{lineEnd, readLine}
 use Rattle.events.proofs.Laws.Line.{readLine-length}
 use Rattle.tables.specs.Ledger.{Ledger}
 use Rattle.report.specs.Layout.{lastNumber}
-use Rattle.report.specs.Run.{Run, afterLine, runAt, keptLength, kept, ended, toldEnded, takeByte, toldByte, takeText, toldText}
-use Rattle.report.specs.Cut.{Endless}
-use Rattle.report.specs.Promises.{Answered, LineByLine, SameAtOnce, PieceByPiece}
-use Rattle.report.proofs.Laws.Cut.{FirstEnd}
+use Rattle.report.specs.Run.{Run, afterLine, runAt, keptLength, kept, ended, toldEnded, takeByte, toldByte, takeText, toldText, endText, toldEnd}
+use Rattle.report.specs.Promises.{takePiece, toldPiece, takePieces, toldPieces, joined, InPieces}
+use Rattle.report.proofs.Laws.Cut.{Endless, FirstEnd}
 
 -- ---- one text behind the other
 
@@ -40,7 +37,7 @@ told-append (b ∷ p) q r =
 -- ---- what is kept of a line
 
 -- a front that was kept before
-kept-kept : (x y : List ℕ) → kept (kept x ++ y) ≡ kept (x ++ y)
+pub kept-kept : (x y : List ℕ) → kept (kept x ++ y) ≡ kept (x ++ y)
 kept-kept x y =
     ⊎-elim
     (λ (s : leb (length x) keptLength ≡ true).
@@ -94,15 +91,20 @@ told-begun (b ∷ h) r e =
 -- ---- a line
 
 -- what an ended line says goes by how it is read
-ended-kept : (r : Run) (x : List ℕ) → ended r (kept x) ≡ ended r x
+pub ended-kept : (r : Run) (x : List ℕ) → ended r (kept x) ≡ ended r x
 ended-kept r x = rw (readLine-kept x)
 
-toldEnded-kept : (r : Run) (x : List ℕ) → toldEnded r (kept x) ≡ toldEnded r x
+pub toldEnded-kept : (r : Run) (x : List ℕ) → toldEnded r (kept x) ≡ toldEnded r x
 toldEnded-kept r x = rw (readLine-kept x)
 
-pub line-by-line : LineByLine
+-- a text that ends where its only line ends is answered as the reader and the ledger answer that line, whole
+pub record Answered (l : Ledger) (n : ℕ) (line : List ℕ) : Type 0 where
+  pub after : takeText (runAt l n []) (line ++ (lineEnd ∷ [])) ≡ ended (runAt l n []) (line ++ (lineEnd ∷ []))
+  pub told : toldText (runAt l n []) (line ++ (lineEnd ∷ [])) ≡ toldEnded (runAt l n []) (line ++ (lineEnd ∷ []))
+
+pub one-line : (l : Ledger) (n : ℕ) (line : List ℕ) → Endless line → Answered l n line
 unfolding takeText toldText
-line-by-line l n line e =
+one-line l n line e =
     let r = runAt l n [] in
     let s = runAt l n (kept line) in
     let b = lineEnd ∷ [] in
@@ -174,23 +176,58 @@ again r h =
     run-begun (r .begun) (runAt (r .book) (r .lines) []) (h .endless) (omega arith)
     ∙ ap (λ (x : List ℕ). runAt (r .book) (r .lines) x) (take-all keptLength (r .begun) (h .short))
 
-pub piece-by-piece : PieceByPiece
+-- what a piece adds to a run that has begun a line
+module _ (r : Run) (h : Begun r) (piece : List ℕ) where
+  piece-after : takePiece r piece ≡ takeText r piece
+  piece-after =
+      run-append (r .begun) piece (runAt (r .book) (r .lines) []) ∙ ap (λ (x : Run). takeText x piece) (again r h)
+
+  piece-told : toldPiece r piece ≡ toldText r piece
+  piece-told =
+      let t = runAt (r .book) (r .lines) [] in
+      told-append (r .begun) piece t
+      ∙ ap (λ (x : List ℕ). x ++ toldText (takeText t (r .begun)) piece) (told-begun (r .begun) t (h .endless))
+      ∙ ap (λ (x : Run). toldText x piece) (again r h)
+
+pub record TwoAtOnce (s : Run) (first second : List ℕ) : Type 0 where
+  pub after : takeText s (first ++ second) ≡ takePiece (takeText s first) second
+  pub told : toldText s (first ++ second) ≡ toldText s first ++ toldPiece (takeText s first) second
+
+pub piece-by-piece : (l : Ledger) (n : ℕ) (first second : List ℕ) → TwoAtOnce (runAt l n []) first second
 piece-by-piece l n first second =
     let s = runAt l n [] in
     let r = takeText s first in
     let h : Begun r = begun-text first s (begun-none l n) in
-    let t = runAt (r .book) (r .lines) [] in
     record {
-      after =
-          run-append first second s
-          ∙ sym (run-append (r .begun) second t ∙ ap (λ (x : Run). takeText x second) (again r h));
-      told =
-          told-append first second s
-          ∙ ap (λ (x : List ℕ). toldText s first ++ x)
-          (sym
-          (told-append (r .begun) second t
-          ∙ ap (λ (x : List ℕ). x ++ toldText (takeText t (r .begun)) second) (told-begun (r .begun) t (h .endless))
-          ∙ ap (λ (x : Run). toldText x second) (again r h)));
+      after = run-append first second s ∙ sym (piece-after r h second);
+      told = told-append first second s ∙ ap (λ (x : List ℕ). toldText s first ++ x) (sym (piece-told r h second));
+    }
+
+pieces-after : (pieces : List (List ℕ)) (r : Run) → Begun r → takePieces r pieces ≡ takeText r (joined pieces)
+unfolding takeText takePieces joined
+pieces-after [] r h = refl
+pieces-after (p ∷ rest) r h =
+    ap (λ (x : Run). takePieces x rest) (piece-after r h p)
+    ∙ pieces-after rest (takeText r p) (begun-text p r h)
+    ∙ sym (run-append p (joined rest) r)
+
+pieces-told : (pieces : List (List ℕ)) (r : Run) → Begun r → toldPieces r pieces ≡ toldText r (joined pieces)
+unfolding toldText toldPieces joined
+pieces-told [] r h = refl
+pieces-told (p ∷ rest) r h =
+    ap (λ (x : Run). toldPiece r p ++ toldPieces x rest) (piece-after r h p)
+    ∙ ap (λ (x : List ℕ). x ++ toldPieces (takeText r p) rest) (piece-told r h p)
+    ∙ ap (λ (x : List ℕ). toldText r p ++ x) (pieces-told rest (takeText r p) (begun-text p r h))
+    ∙ sym (told-append p (joined rest) r)
+
+pub in-pieces : InPieces
+in-pieces l n pieces =
+    let e = pieces-after pieces (runAt l n []) (begun-none l n) in
+    record {
+      after = e;
+      told = pieces-told pieces (runAt l n []) (begun-none l n);
+      end-after = ap endText e;
+      end-told = ap toldEnd e;
     }
 
 -- ---- a text line by line: the lines before a place have been answered, and a line begins there
@@ -242,7 +279,7 @@ module _ (text : List ℕ) (at k : ℕ) (f : FirstEnd text at k) where
         ∙ run-append (take at text) (take (k + 1 - at) (drop at text)) s
         ∙ ap (λ (r : Run). takeText r (take (k + 1 - at) (drop at text))) (a .now)
         ∙ ap (takeText (runAt l n [])) segment-end
-        ∙ line-by-line l n segment segment-endless .after
+        ∙ one-line l n segment segment-endless .after
         ∙ ap (ended (runAt l n [])) (sym whole)
 
     pub line-told : toldText s (take (k + 1) text) ≡ told ++ toldEnded (runAt l n []) line
@@ -252,7 +289,7 @@ module _ (text : List ℕ) (at k : ℕ) (f : FirstEnd text at k) where
         ∙ ap (λ (x : List ℕ). x ++ toldText (takeText s (take at text)) (take (k + 1 - at) (drop at text))) (a .so-far)
         ∙ ap (λ (r : Run). told ++ toldText r (take (k + 1 - at) (drop at text))) (a .now)
         ∙ ap (λ (x : List ℕ). told ++ toldText (runAt l n []) x) segment-end
-        ∙ ap (λ (x : List ℕ). told ++ x) (line-by-line l n segment segment-endless .told)
+        ∙ ap (λ (x : List ℕ). told ++ x) (one-line l n segment segment-endless .told)
         ∙ ap (λ (x : List ℕ). told ++ toldEnded (runAt l n []) x) (sym whole)
 
     pub answering-line : (l' : Ledger) (n' : ℕ) → runAt l' n' [] ≡ ended (runAt l n []) line → Answering s text (k + 1) l' n' (told ++ toldEnded (runAt l n []) line)

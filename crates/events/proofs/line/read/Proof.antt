@@ -25,41 +25,20 @@ enum-known-r c = search needs
 enum-told : tie.Need-enum-told
 enum-told c = search needs
 
-array-read-t9 : tie.Need-array-read-t9
-array-read-t9 c = search needs
-
-array-read-t12 : tie.Need-array-read-t12
-array-read-t12 c = search needs
-
-array-read-t15 : tie.Need-array-read-t15
-array-read-t15 c = search needs
-
-array-read-t18 : tie.Need-array-read-t18
-array-read-t18 c = search needs
-
-array-read-t21 : tie.Need-array-read-t21
-array-read-t21 c = search needs
-
-array-read-t24 : tie.Need-array-read-t24
-array-read-t24 c = search needs
-
-array-read-t27 : tie.Need-array-read-t27
-array-read-t27 c = search needs
-
-array-read-t30 : tie.Need-array-read-t30
-array-read-t30 c = search needs
-
-array-read-t33 : tie.Need-array-read-t33
-array-read-t33 c = search needs
+event-in-requires : tie.Need-event-in-requires
+event-in-requires c κs = search needs
 
 returns : tie.Need-returns
 returns c = numbered _ (sym (cells-refused _ _ (sym (c .before .before .before .read-cells .ensures .0) ∙ c .before .r .given .1)))
 
 returns-2 : tie.Need-returns-2
 returns-2 c =
-    let t = cells-taken _ _ (sym (c .before .before .read-cells .ensures .0) ∙ c .enum-told .given .1) in
+    let r = c .before .before .before .before .read-cells in
+    let t = cells-taken _ _ (sym (r .ensures .0) ∙ c .before .before .enum-told .given .1) in
     numbered _
-    (ap (λ (l : List ℕ). lines.Taken (eventOf l)) (c .before .before .read-cells .ensures .1 .0 ∙ t .is-cells) ∙ sym (t .is-read))
+    (ap lines.Taken (c .event-in .ensures)
+    ∙ ap (λ (l : List ℕ). lines.Taken (eventOf l)) (r .ensures .1 .0 ∙ t .is-cells)
+    ∙ sym (t .is-read))
 
 pub read-spec : {M : Type 1} → statement M
 read-spec =
@@ -68,14 +47,6 @@ read-spec =
     read-cells-requires
     enum-known-r
     enum-told
-    array-read-t9
-    array-read-t12
-    array-read-t15
-    array-read-t18
-    array-read-t21
-    array-read-t24
-    array-read-t27
-    array-read-t30
-    array-read-t33
+    event-in-requires
     returns
     returns-2)

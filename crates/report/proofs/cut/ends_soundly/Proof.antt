@@ -1,21 +1,20 @@
--- `cut::ends_soundly` meets its contract: only the last answer can be yes. Assumes nothing.
+-- `cut::ends_soundly` meets its contract: the text is too short, another byte stands there, or none ends a line before. Assumes nothing.
 use native.Mathlib.Omega.{arith}
-use mathlib.Core.Path.{refl}
-use Rattle.common.proofs.Tests.{never}
+use mathlib.Core.Path.{_∙_}
 use Rattle.events.specs.Line.{columns}
-use Rattle.report.proofs.Laws.Cut.{endFrom-sound}
+use Rattle.report.proofs.Laws.Cut.{not-short, not-other, none-before-is}
 use borrow.Author.Needs.{needs}
 use Rattle.report.proofs.cut.ends_soundly.Statement.{statement}
 use Rattle.report.proofs.cut.ends_soundly.Tie as tie
 
 returns : tie.Need-returns
-returns c = λ t. absurd (never t refl)
+returns c = not-short _ _ columns (omega (arith, c .if1 .taken))
 
 sub-if2 : tie.Need-sub-if2
 sub-if2 c = search needs
 
 returns-2 : tie.Need-returns-2
-returns-2 c = λ t. absurd (never t refl)
+returns-2 c = not-short _ _ columns (omega (arith, c .before .if1 .left, c .if2 .taken))
 
 add-end : tie.Need-add-end
 add-end c = search needs
@@ -24,7 +23,7 @@ shared-slice-read-if3 : tie.Need-shared-slice-read-if3
 shared-slice-read-if3 c = search needs
 
 returns-3 : tie.Need-returns-3
-returns-3 c = λ t. absurd (never t refl)
+returns-3 c = not-other _ _ columns (c .if3 .taken)
 
 sub-is-endless : tie.Need-sub-is-endless
 sub-is-endless c = search needs
@@ -39,7 +38,10 @@ is-endless-requires : tie.Need-is-endless-requires
 is-endless-requires c κs = search needs
 
 returns-4 : tie.Need-returns-4
-returns-4 c = λ t. endFrom-sound (c .before .before .before .before .before .before .before .args .text .now) (c .before .before .before .before .before .before .before .args .from) columns (omega (arith, c .before .before .before .before .before .if1 .left, c .before .before .before .before .if2 .left)) (c .before .before .if3 .left) (c .is-endless .ensures t)
+returns-4 c =
+    let d = c .before .before .before .before in
+    c .is-endless .ensures
+    ∙ none-before-is (d .before .before .before .args .text .now) (d .before .before .before .args .from) columns (omega (arith, d .before .if1 .left, d .if2 .left)) (c .before .before .if3 .left)
 
 pub ends-soundly-spec : {M : Type 1} → statement M
 ends-soundly-spec =

@@ -1,19 +1,29 @@
 -- `cut::line_end` meets its contract: the end where a sound line has it, or what the scan finds. Assumes nothing.
 use native.Mathlib.Omega.{arith}
-use mathlib.Core.Path.{sym}
-use Rattle.report.proofs.Laws.Cut.{endFrom-at}
+use mathlib.Core.Path.{_≡_, sym, _∙_}
+use mathlib.Core.Bool.{true}
+use Prim.Native.Nat.{_+_}
+use Rattle.events.specs.Line.{columns}
+use Rattle.report.specs.declared.cut.LineEnd.the-variants.{At}
+use Rattle.report.specs.Cut.{endFrom}
+use Rattle.report.proofs.Laws.Cut.{isAt-true, endFrom-at}
 use borrow.Author.Needs.{needs}
 use Rattle.report.proofs.cut.line_end.Statement.{statement}
 use Rattle.report.proofs.cut.line_end.Tie as tie
+
+sound :
+    (c : tie.After-ends-soundly) → c .ends-soundly .result ≡ true
+    → endFrom (c .before .before .args .text .now) (c .before .before .args .from) ≡ At (c .before .before .args .from + columns)
+sound c t = isAt-true _ _ (sym (c .ends-soundly .ensures) ∙ t)
 
 ends-soundly-requires : tie.Need-ends-soundly-requires
 ends-soundly-requires c κs = search needs
 
 add-t4 : tie.Need-add-t4
-add-t4 c = omega (arith, endFrom-at _ _ _ (c .before .ends-soundly .ensures (c .if1 .taken)) .inside, c .before .before .before .good)
+add-t4 c = omega (arith, endFrom-at _ _ _ (sound (c .before) (c .if1 .taken)) .inside, c .before .before .before .good)
 
 returns : tie.Need-returns
-returns c = sym (c .before .ends-soundly .ensures (c .if1 .taken))
+returns c = sym (sound (c .before) (c .if1 .taken))
 
 scan-requires : tie.Need-scan-requires
 scan-requires c κs = search needs

@@ -1,11 +1,10 @@
 -- `cut::skip` meets its contract. The loop: the first end from i on is the first of all. Assumes nothing.
-use mathlib.Core.Path.{_≡_, refl, _∙_}
-use native.Mathlib.Omega.{arith}
+use mathlib.Core.Path.{_≡_, refl, sym, _∙_}
 use Prim.Native.Nat.{_-_}
 use lib.ListN.{length}
 use borrow.Author.Tests.{not-false}
 use Rattle.report.specs.Cut.{endFrom}
-use Rattle.report.proofs.Laws.Cut.{endFrom-past}
+use Rattle.report.proofs.Laws.Cut.{isNone-endless, endFrom-past}
 use borrow.Author.Needs.{needs}
 use Rattle.report.proofs.cut.skip.Statement.{statement}
 use Rattle.report.proofs.cut.skip.Tie as tie
@@ -50,7 +49,7 @@ loop-again : tie.Need-loop-again Inv-loop μ-loop
 loop-again c =
     let l = c .before .before .before .before .before in
     endFrom-past (l .before .before .args .text .now) (l .loop .i) 16 (search needs)
-    (c .before .is-endless .ensures (not-false _ (c .if2 .left)))
+    (isNone-endless _ (sym (c .before .is-endless .ensures) ∙ not-false _ (c .if2 .left)))
     ∙ l .loop .inv
 
 returns-3 : tie.Need-returns-3 Inv-loop μ-loop

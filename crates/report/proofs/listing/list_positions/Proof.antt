@@ -37,7 +37,7 @@ returns c =
     let s = c .before .before .before .before .before .before in
     let e : listed (book s) (s .args .out .now) ≡ false =
     sym (listed-is (book s) (s .args .out .now) _ _ (c .before .is-fit .ensures) refl) ∙ not-true (c .if1 .taken) in
-    record { answer-is = rw e; bytes-are = rw e; out-is = rw e }
+    record { answer-is = rw e; number-is = rw e; bytes-are = rw e; out-is = rw e }
 
 memory : (c : tie.Else1) → listed (book (c .before .before .before .before .before .before)) (c .before .before .before .before .before .before .args .out .now) ≡ true
 memory c =
@@ -108,7 +108,7 @@ returns-2 c =
     listing-written (book s) (s .args .out .now) m next now (three k) _
     (rw (fits) at (c .before .before .position-line .ensures .1)
     ∙ ap (λ (x : ℤ). pasted next (positionLine 4 0 x) now) back) in
-    record { answer-is = rw m; bytes-are = rw m (w .place ∙ zero-add _); out-is = rw m (w .bytes) }
+    record { answer-is = rw m; number-is = rw m; bytes-are = rw m (w .place ∙ zero-add _); out-is = rw m (w .bytes) }
 
 pub list-positions-spec : {M : Type 1} → statement M
 list-positions-spec =
