@@ -1,0 +1,91 @@
+-- An opened ledger stays fit, whatever the events, so they are answered by the rules alone: no answer need test the memory.
+-- To cite: `ruledAnswers` (computes where it is unfolded), `opened-answers`, `opened-history`. Assumes nothing.
+use mathlib.Core.Path.{_≡_, refl, ap, _∙_}
+use mathlib.Core.Bool.{Bool, true, false}
+use mathlib.Core.List.{List, [], _∷_}
+use Prim.Native.Nat.{ℕ}
+use native.Mathlib.Omega.{arith}
+use lib.Dec.{eqb}
+use borrow.Author.Tests.{ne-eqb}
+use Rattle.refusals.specs.Refusals.{numberOf}
+use Rattle.refusals.proofs.Laws.Refusals.{numberOf-pos}
+use Rattle.calendar.specs.Gregorian.{leap, leapDay, monthLength, isDate, inRange}
+use Rattle.calendar.specs.DayNumber.{daysBefore, yearStart, dayNumber, yearAt, monthAt, dateIn, dateAt, dateOf}
+use Rattle.calendar.specs.Easter.{computus, easterSunday}
+use Rattle.calendar.specs.Target.{closedBy, closed, businessDay, isOpen, seek, firstOpen, openAfter, lastOpenBefore, firstBusinessDay, lastBusinessDayBefore}
+use Rattle.calendar.specs.Periods.{daysAfter, businessDaysAfter, monthCount, dayOfMonthCount, monthsAfter, periodEnd}
+use Rattle.common.specs.Walk.{firstFrom}
+use Rattle.events.specs.declared.Event.{Event}
+use Rattle.events.specs.Limits.{table, rowOf, rowFits, fieldsFit, checked}
+use Rattle.tables.specs.Ledger.{Ledger, bankOf}
+use Rattle.tables.specs.Lookup.{lookup}
+use Rattle.tables.specs.Records.{mandateOf, collectionOf}
+use Rattle.tables.specs.Rows.{mandateAt, collectionAt, putRow}
+use Rattle.tables.specs.Fitness.{sizesFit, fit}
+use Rattle.tables.specs.Opening.{fresh, opened}
+use Rattle.tables.proofs.Laws.Opening.{opened-done}
+use Rattle.model.specs.declared.Answer.{Answer}
+use Rattle.model.specs.declared.Answer.the-variants.{Accepted, Refused}
+use Rattle.model.specs.Actions.{newMandate, actionOf}
+use Rattle.model.specs.Lookups as inLedger
+use Rattle.model.specs.Deadlines.{keptDue, timely, lastDay, lapseEnd}
+use Rattle.model.specs.Checks.{ruled}
+use Rattle.model.specs.Effects.{changed, presentedOn, newCollection, treated, effect}
+use Rattle.model.specs.Step.{answerNumber, isAccepted, thenRuled, answer, afterAnswer, after, Entry, entry, history}
+use Rattle.model.proofs.Laws.Invariant.{Safe}
+use Rattle.model.proofs.Laws.Batch.{after-safe, opened-safe}
+use Rattle.witness.specs.Opening.{answers}
+
+-- ---- the rules alone
+
+abbrev ruledAnswer : Ledger → Event → Answer
+ruledAnswer l e = thenRuled (checked e) (ruled l (e .date) (actionOf e))
+
+abbrev ruledAfter : Ledger → Event → Ledger
+ruledAfter l e = afterAnswer (ruledAnswer l e) (effect l (e .date) (actionOf e)) l
+
+-- whoever unfolds it unfolds all that an answer is computed from
+unfoldable pub ruledAnswers : Ledger → List Event → List ℕ
+unfolding leap leapDay monthLength isDate inRange daysBefore yearStart dayNumber yearAt monthAt dateIn dateAt dateOf computus easterSunday closedBy closed businessDay isOpen seek firstOpen openAfter lastOpenBefore firstBusinessDay lastBusinessDayBefore daysAfter businessDaysAfter monthCount dayOfMonthCount monthsAfter periodEnd firstFrom table rowOf rowFits fieldsFit checked bankOf lookup mandateOf collectionOf mandateAt collectionAt putRow fresh newMandate actionOf inLedger.mandateOf inLedger.collectionOf keptDue timely lastDay lapseEnd ruled changed presentedOn newCollection treated effect
+ruledAnswers l [] = []
+ruledAnswers l (e ∷ es) = answerNumber (ruledAnswer l e) ∷ ruledAnswers (ruledAfter l e) es
+
+-- ---- the answers of a fit ledger are those of the rules
+
+module _ (l : Ledger) (e : Event) (f : fit l ≡ true) where
+  answer-ruled : answer l e ≡ ruledAnswer l e
+  unfolding answer
+  answer-ruled = rw f
+
+  after-ruled : after l e ≡ ruledAfter l e
+  unfolding after
+  after-ruled = rw answer-ruled
+
+answers-ruled : (es : List Event) (l : Ledger) → Safe l → answers l es ≡ ruledAnswers l es
+unfolding answers ruledAnswers
+answers-ruled [] l s = refl
+answers-ruled (e ∷ es) l s =
+    rw (answer-ruled l e (s .fits))
+    (ap (λ (ns : List ℕ). answerNumber (ruledAnswer l e) ∷ ns)
+    (answers-ruled es (after l e) (after-safe l e s)
+    ∙ ap (λ (k : Ledger). ruledAnswers k es) (after-ruled l e (s .fits))))
+
+pub opened-answers : (t : Ledger) → sizesFit t ≡ true → (es : List Event) → answers (opened t) es ≡ ruledAnswers (fresh t) es
+opened-answers t z es =
+    answers-ruled es (opened t) (opened-safe t z) ∙ ap (λ (l : Ledger). ruledAnswers l es) (opened-done t z)
+
+-- ---- the history by its answers: 0 is accepted
+
+abbrev pub entries : List Event → List ℕ → List Entry
+entries [] ns = []
+entries (e ∷ es) [] = []
+entries (e ∷ es) (n ∷ ns) = entry e (eqb n 0) ∷ entries es ns
+
+accepted-number : (a : Answer) → isAccepted a ≡ eqb (answerNumber a) 0
+accepted-number Accepted = refl
+accepted-number (Refused r) = rw (ne-eqb (numberOf r) 0 (λ e. let p = numberOf-pos r in omega arith))
+
+pub history-answers : (es : List Event) (l : Ledger) → history l es ≡ entries es (answers l es)
+unfolding history answers
+history-answers [] l = refl
+history-answers (e ∷ es) l = rw (accepted-number (answer l e), history-answers es (after l e))

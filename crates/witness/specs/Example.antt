@@ -1,0 +1,56 @@
+-- The example of document 01, "The text line": seven events, their answers and the positions after them. Assumes nothing.
+use mathlib.Core.Path.{_≡_}
+use mathlib.Core.Bool.{true, cond, _&&_}
+use mathlib.Core.List.{List, [], _∷_}
+use Prim.Native.Nat.{ℕ}
+use lib.Dec.{eqb}
+use lib.IntN.{ℤ, pos, negℤ}
+use Rattle.events.specs.declared.Event.{Event}
+use Rattle.tables.specs.Opening.{opening, opened}
+use Rattle.model.specs.declared.QueryAnswer.the-variants.{Figure}
+use Rattle.model.specs.Step.{inQuery, query, run}
+use Rattle.witness.specs.Opening.{event, lent, answers}
+
+unfoldable pub events : List Event
+events =
+    event 1 20240325 0 1 1 0 0 0 0
+    ∷ event 2 20240325 7 1 5 2 0 20240325 0
+    ∷ event 5 20240325 7 70 0 0 10000 20240329 0
+    ∷ event 6 20240329 0 70 0 0 0 0 0
+    ∷ event 6 20240402 0 70 0 0 0 0 0
+    ∷ event 9 20240412 0 70 360 0 0 0 0
+    ∷ event 10 20240412 0 70 0 0 0 0 0
+    ∷ []
+
+-- a position that is written at the end: its kind, number and cents
+pub record Position : Type 0 where
+  pub kind : ℕ
+  pub number : ℕ
+  pub cents : ℤ
+
+abbrev pub position : ℕ → ℕ → ℤ → Position
+position k n z = record { kind = k; number = n; cents = z }
+
+abbrev pub listing : List Position
+listing =
+    position 1 1 (negℤ (pos 10))
+    ∷ position 3 1 (negℤ (pos 10))
+    ∷ position 3 2 (pos 10)
+    ∷ position 4 0 (pos 10)
+    ∷ []
+
+-- the cents of a position in a listing; 0 where it is not written
+abbrev pub centsIn : List Position → ℕ → ℕ → ℤ
+centsIn [] kind number = pos 0
+centsIn (p ∷ ps) kind number = cond (eqb kind (p .kind) && eqb number (p .number)) (p .cents) (centsIn ps kind number)
+
+-- the statement
+pub record Example : Type 0 where
+  -- opening is accepted
+  pub opens : opening lent .number ≡ 0
+  -- each event is answered as in the paper
+  pub answered : answers (opened lent) events ≡ 0 ∷ 0 ∷ 0 ∷ 7 ∷ 0 ∷ 0 ∷ 15 ∷ []
+  -- and after them every query within its limits
+  pub figures :
+      (kind number : ℕ) → inQuery kind number ≡ true
+      → query (run (opened lent) events) kind number ≡ Figure (centsIn listing kind number)
