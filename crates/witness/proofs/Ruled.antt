@@ -21,7 +21,7 @@ use Rattle.tables.specs.Ledger.{Ledger, bankOf}
 use Rattle.tables.specs.Lookup.{lookup}
 use Rattle.tables.specs.Records.{mandateOf, collectionOf}
 use Rattle.tables.specs.Rows.{mandateAt, collectionAt, putRow}
-use Rattle.tables.specs.Fitness.{sizesFit, fit}
+use Rattle.tables.specs.Fitness.{sizesOf, sizesFit, fit}
 use Rattle.tables.specs.Opening.{fresh, opened}
 use Rattle.tables.proofs.Laws.Opening.{opened-done}
 use Rattle.model.specs.declared.Answer.{Answer}
@@ -34,7 +34,7 @@ use Rattle.model.specs.Effects.{changed, presentedOn, newCollection, treated, e
 use Rattle.model.specs.Step.{answerNumber, isAccepted, thenRuled, answer, afterAnswer, after, Entry, entry, history}
 use Rattle.model.proofs.Laws.Invariant.{Safe}
 use Rattle.model.proofs.Laws.Batch.{after-safe, opened-safe}
-use Rattle.witness.specs.Opening.{answers}
+use Rattle.witness.specs.Opening.{lent, answers}
 
 -- ---- the rules alone
 
@@ -73,6 +73,12 @@ answers-ruled (e ∷ es) l s =
 pub opened-answers : (t : Ledger) → sizesFit t ≡ true → (es : List Event) → answers (opened t) es ≡ ruledAnswers (fresh t) es
 opened-answers t z es =
     answers-ruled es (opened t) (opened-safe t z) ∙ ap (λ (l : Ledger). ruledAnswers l es) (opened-done t z)
+
+-- ---- what the program lends has the sizes asked for
+
+pub lent-sizes : sizesFit lent ≡ true
+unfolding sizesOf
+lent-sizes = refl
 
 -- ---- the history by its answers: 0 is accepted
 
