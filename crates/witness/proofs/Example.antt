@@ -1,13 +1,84 @@
--- The example of document 01 holds: its answers are computed, the positions after it are the journal's figures. Assumes nothing.
-use mathlib.Core.Path.{_≡_, refl, sym, ap, subst, _∙_}
-use mathlib.Core.Bool.{true}
+-- The example of document 01 holds: its answers are computed, and the positions after it are figures of the journal, which is fed
+-- the events and these answers. Assumes nothing.
+use mathlib.Core.Path.{_≡_, refl, ap, subst, _∙_}
+use mathlib.Core.Bool.{Bool, true, false, cond}
 use mathlib.Core.List.{List, [], _∷_}
+use mathlib.Core.Logic.{⊎-elim}
 use Prim.Native.Nat.{ℕ}
+use lib.Dec.{eqb}
+use lib.IntN.{ℤ}
+use borrow.Author.Tests.{eqb-true}
+use Rattle.common.proofs.Tests.{and-halves, true-or-false}
+use Rattle.calendar.specs.Gregorian.{leap, leapDay}
+use Rattle.calendar.specs.DayNumber.{daysBefore, yearStart, dayNumber}
+use Rattle.positions.specs.Compensation.{compensation as compensationFor, interest, halfUp}
 use Rattle.tables.specs.Opening.{opened}
+use Rattle.tables.proofs.Laws.Opening.{opening-done}
+use Rattle.model.specs.declared.QueryAnswer.the-variants.{Figure}
+use Rattle.model.specs.Actions.{newMandate, actionOf}
+use Rattle.model.specs.Step.{inQuery, Entry, history}
+use Rattle.model.specs.Journal.{Journal, newNoted, notedPresented, notedCollection, notedSettled, note, journalFrom, journal, figureIn}
+use Rattle.model.proofs.Laws.Theorem.{demand3}
 use Rattle.witness.specs.Opening.{lent, answers}
-use Rattle.witness.specs.Example.{events}
-use Rattle.witness.proofs.Ruled.{ruledAnswers, lent-sizes, opened-answers}
+use Rattle.witness.specs.Example.{events, listing, centsIn, Example}
+use Rattle.witness.proofs.Ruled.{ruledAnswers, lent-sizes, opened-answers, entries, history-answers}
 
-answered : answers (opened lent) events ≡ 0 ∷ 0 ∷ 0 ∷ 7 ∷ 0 ∷ 0 ∷ 15 ∷ []
+-- ---- the answers
+
+abbrev numbers : List ℕ
+numbers = 0 ∷ 0 ∷ 0 ∷ 7 ∷ 0 ∷ 0 ∷ 15 ∷ []
+
+answered : answers (opened lent) events ≡ numbers
 unfolding events ruledAnswers
 answered = opened-answers lent lent-sizes events
+
+-- ---- the journal's figures, by the number of a party or bank
+
+-- the journal after the example; whoever unfolds it unfolds all that its figures are computed from
+closing : Journal
+unfolding events journalFrom note newMandate actionOf newNoted notedPresented notedCollection notedSettled compensationFor interest halfUp leap leapDay daysBefore yearStart dayNumber
+closing = journal (entries events numbers)
+
+-- a number is k or not
+either : {A : Type 0} (n k : ℕ) → (n ≡ k → A) → (eqb n k ≡ false → A) → A
+either n k same other = ⊎-elim (λ p. same (eqb-true n k p)) other (true-or-false (eqb n k))
+
+creditors : (n : ℕ) → figureIn closing 1 n ≡ centsIn listing 1 n
+unfolding closing
+creditors n = either n 1 (λ p. rw p) (λ p. rw p)
+
+-- the debtor got all of it back
+debtors : (n : ℕ) → figureIn closing 2 n ≡ centsIn listing 2 n
+unfolding closing
+debtors n = either n 5 (λ p. rw p) (λ p. rw p)
+
+banks : (n : ℕ) → figureIn closing 3 n ≡ centsIn listing 3 n
+unfolding closing
+banks n = either n 1 (λ p. rw p) (λ p. either n 2 (λ q. rw q) (λ q. rw (p, q)))
+
+total : figureIn closing 4 0 ≡ centsIn listing 4 0
+unfolding closing
+total = refl
+
+closing-figures : (kind number : ℕ) → inQuery kind number ≡ true → figureIn closing kind number ≡ centsIn listing kind number
+closing-figures kind number q =
+    either kind 1 (λ p. rw p (creditors number))
+    (λ not1.
+    either kind 2 (λ p. rw p (debtors number))
+    (λ not2.
+    either kind 3 (λ p. rw p (banks number))
+    (λ not3.
+    let last = and-halves (eqb kind 4) (rw (not1, not2, not3) at q) in
+    rw (eqb-true kind 4 (last .0), eqb-true number 0 (last .1)) total)))
+
+pub example : Example
+unfolding closing
+example = record {
+  opens = ap (λ o. o .number) (opening-done lent lent-sizes);
+  answered = answered;
+  figures =
+      λ kind number q.
+      demand3 lent lent-sizes events .figures kind number q
+      ∙ ap (λ (h : List Entry). Figure (figureIn (journal h) kind number)) (history-answers events (opened lent) ∙ ap (entries events) answered)
+      ∙ ap Figure (closing-figures kind number q);
+}
