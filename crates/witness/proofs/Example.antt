@@ -2,25 +2,32 @@
 -- the events and these answers. Assumes nothing.
 use mathlib.Core.Path.{_≡_, refl, ap, subst, _∙_}
 use mathlib.Core.Bool.{Bool, true, false, cond}
-use mathlib.Core.List.{List, [], _∷_}
+use mathlib.Core.List.{List, [], _∷_, _++_}
 use mathlib.Core.Logic.{⊎-elim}
-use Prim.Native.Nat.{ℕ}
+use Prim.Native.Nat.{ℕ, _+_}
 use lib.Dec.{eqb}
-use lib.IntN.{ℤ}
+use lib.ListN.{drop}
 use borrow.Author.Tests.{eqb-true}
 use Rattle.common.proofs.Tests.{and-halves, true-or-false}
 use Rattle.calendar.specs.Gregorian.{leap, leapDay}
 use Rattle.calendar.specs.DayNumber.{daysBefore, yearStart, dayNumber}
 use Rattle.positions.specs.Compensation.{compensation as compensationFor, interest, halfUp}
-use Rattle.tables.specs.Opening.{opened}
+use Rattle.events.specs.declared.Event.{Event}
+use Rattle.tables.specs.Ledger.{Ledger}
+use Rattle.tables.specs.Opening.{Outcome, opened}
 use Rattle.tables.proofs.Laws.Opening.{opening-done}
 use Rattle.model.specs.declared.QueryAnswer.the-variants.{Figure}
 use Rattle.model.specs.Actions.{newMandate, actionOf}
 use Rattle.model.specs.Step.{inQuery, Entry, history}
 use Rattle.model.specs.Journal.{Journal, newNoted, notedPresented, notedCollection, notedSettled, note, journalFrom, journal, figureIn}
 use Rattle.model.proofs.Laws.Theorem.{demand3}
+use Rattle.events.specs.Line.{padded, fieldBytes, readLine, readDigits, readNumber, readField}
+use Rattle.report.specs.Layout.{signedPadded, signedField, answerLine, positionLine}
+use Rattle.report.specs.Run.{runAt, takeText, toldText, eventsText, toldEnd, toldFigures, toldJournal}
+use Rattle.report.proofs.Laws.Program.{program-kept}
 use Rattle.witness.specs.Opening.{lent, answers}
-use Rattle.witness.specs.Example.{events, listing, centsIn, Example}
+use Rattle.witness.specs.Text.{textOf, written}
+use Rattle.witness.specs.Example.{input, output, events, listing, centsIn, Example}
 use Rattle.witness.proofs.Ruled.{ruledAnswers, lent-sizes, opened-answers, entries, history-answers}
 
 -- ---- the answers
@@ -71,14 +78,58 @@ closing-figures kind number q =
     let last = and-halves (eqb kind 4) (rw (not1, not2, not3) at q) in
     rw (eqb-true kind 4 (last .0), eqb-true number 0 (last .1)) total)))
 
+-- ---- the text
+
+-- the lines of the answers, the first with the number n
+abbrev answerLines : ℕ → List ℕ → List ℕ
+answerLines n [] = []
+answerLines n (a ∷ rest) = answerLine n a ++ answerLines (n + 1) rest
+
+module _ (l : Ledger) where
+  says : eventsText (runAt l 0 []) (textOf input) ≡ events
+  unfolding eventsText events readLine readDigits readNumber readField ruledAnswers
+  says = refl
+
+  told : toldText (runAt l 0 []) (textOf input) ≡ answerLines 1 (answers l events)
+  unfolding toldText events readLine readDigits readNumber readField answers ruledAnswers
+  told = refl
+
+  taken : takeText (runAt l 0 []) (textOf input) .begun ≡ []
+  unfolding takeText readLine readDigits readNumber readField ruledAnswers
+  taken = refl
+
+listed : toldJournal closing ≡ textOf (drop 7 output)
+unfolding closing toldJournal toldFigures positionLine fieldBytes padded signedField signedPadded
+listed = refl
+
+history-closing : history (opened lent) events ≡ entries events numbers
+history-closing = history-answers events (opened lent) ∙ ap (entries events) answered
+
+writes : written (opened lent) (textOf input) ≡ textOf output
+unfolding answerLine fieldBytes padded closing
+writes =
+    let l = opened lent in
+    let r = takeText (runAt l 0 []) (textOf input) in
+    let answers-told = told l ∙ ap (answerLines 1) answered in
+    let end-told : toldEnd r ≡ [] = rw (taken l) in
+    let listing-told =
+        program-kept lent lent-sizes (textOf input) .listing
+        ∙ ap (λ (es : List Event). toldJournal (journal (history l es))) (says l)
+        ∙ ap (λ (h : List Entry). toldJournal (journal h)) history-closing
+        ∙ listed
+    in
+    rw (answers-told, end-told, listing-told)
+
 pub example : Example
 unfolding closing
 example = record {
-  opens = ap (λ o. o .number) (opening-done lent lent-sizes);
+  writes = writes;
+  says = says (opened lent);
+  opens = ap (λ (o : Outcome). o .number) (opening-done lent lent-sizes);
   answered = answered;
   figures =
       λ kind number q.
       demand3 lent lent-sizes events .figures kind number q
-      ∙ ap (λ (h : List Entry). Figure (figureIn (journal h) kind number)) (history-answers events (opened lent) ∙ ap (entries events) answered)
+      ∙ ap (λ (h : List Entry). Figure (figureIn (journal h) kind number)) history-closing
       ∙ ap Figure (closing-figures kind number q);
 }

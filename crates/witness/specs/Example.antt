@@ -3,13 +3,46 @@ use mathlib.Core.Path.{_≡_}
 use mathlib.Core.Bool.{true, cond, _&&_}
 use mathlib.Core.List.{List, [], _∷_}
 use Prim.Native.Nat.{ℕ}
+use Prim.Native.String.{String}
 use lib.Dec.{eqb}
 use lib.IntN.{ℤ, pos, negℤ}
 use Rattle.events.specs.declared.Event.{Event}
 use Rattle.tables.specs.Opening.{opening, opened}
 use Rattle.model.specs.declared.QueryAnswer.the-variants.{Figure}
 use Rattle.model.specs.Step.{inQuery, query, run}
+use Rattle.report.specs.Run.{runAt, eventsText}
 use Rattle.witness.specs.Opening.{event, lent, answers}
+use Rattle.witness.specs.Text.{textOf, written}
+
+-- ---- the input and the output, as they are printed
+
+abbrev pub input : List String
+input =
+    " 1 20240325         0         1         1         0           0        0 0"
+    ∷ " 2 20240325         7         1         5         2           0 20240325 0"
+    ∷ " 5 20240325         7        70         0         0       10000 20240329 0"
+    ∷ " 6 20240329         0        70         0         0           0        0 0"
+    ∷ " 6 20240402         0        70         0         0           0        0 0"
+    ∷ " 9 20240412         0        70       360         0           0        0 0"
+    ∷ "10 20240412         0        70         0         0           0        0 0"
+    ∷ []
+
+abbrev pub output : List String
+output =
+    "     1  0"
+    ∷ "     2  0"
+    ∷ "     3  0"
+    ∷ "     4  7"
+    ∷ "     5  0"
+    ∷ "     6  0"
+    ∷ "     7 15"
+    ∷ " 1     1               -10"
+    ∷ " 3     1               -10"
+    ∷ " 3     2                10"
+    ∷ " 4     0                10"
+    ∷ []
+
+-- ---- what they say
 
 unfoldable pub events : List Event
 events =
@@ -46,6 +79,10 @@ centsIn (p ∷ ps) kind number = cond (eqb kind (p .kind) && eqb number (p .numb
 
 -- the statement
 pub record Example : Type 0 where
+  -- the program writes the output for the input, byte for byte
+  pub writes : written (opened lent) (textOf input) ≡ textOf output
+  -- the input says these events
+  pub says : eventsText (runAt (opened lent) 0 []) (textOf input) ≡ events
   -- opening is accepted
   pub opens : opening lent .number ≡ 0
   -- each event is answered as in the paper
