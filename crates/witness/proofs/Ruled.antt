@@ -1,5 +1,5 @@
 -- An opened ledger stays fit, whatever the events, so they are answered by the rules alone: no answer need test the memory.
--- To cite: `ruledAnswers` (computes where it is unfolded), `opened-answers`, `opened-history`. Assumes nothing.
+-- To cite: `opened-answers`, `opened-run`, `opened-answer`, `history-answers`. Assumes nothing.
 use mathlib.Core.Path.{_≡_, refl, ap, _∙_}
 use mathlib.Core.Bool.{Bool, true, false}
 use mathlib.Core.List.{List, [], _∷_}
@@ -31,22 +31,28 @@ use Rattle.model.specs.Lookups as inLedger
 use Rattle.model.specs.Deadlines.{keptDue, timely, lastDay, lapseEnd}
 use Rattle.model.specs.Checks.{ruled}
 use Rattle.model.specs.Effects.{changed, presentedOn, newCollection, treated, effect}
-use Rattle.model.specs.Step.{answerNumber, isAccepted, thenRuled, answer, afterAnswer, after, Entry, entry, history}
+use Rattle.model.specs.Step.{answerNumber, isAccepted, thenRuled, answer, afterAnswer, after, run, Entry, entry, history}
 use Rattle.model.proofs.Laws.Invariant.{Safe}
-use Rattle.model.proofs.Laws.Batch.{after-safe, opened-safe}
+use Rattle.model.proofs.Laws.Batch.{after-safe, run-safe, opened-safe}
 use Rattle.witness.specs.Opening.{lent, answers}
 
--- ---- the rules alone
+-- ---- the rules alone; whoever unfolds one of these unfolds all that it is computed from
 
-abbrev ruledAnswer : Ledger → Event → Answer
+unfoldable pub ruledAnswer : Ledger → Event → Answer
+unfolding leap leapDay monthLength isDate inRange daysBefore yearStart dayNumber yearAt monthAt dateIn dateAt dateOf computus easterSunday closedBy closed businessDay isOpen seek firstOpen openAfter lastOpenBefore firstBusinessDay lastBusinessDayBefore daysAfter businessDaysAfter monthCount dayOfMonthCount monthsAfter periodEnd firstFrom table rowOf rowFits fieldsFit checked bankOf lookup mandateOf collectionOf mandateAt collectionAt newMandate actionOf inLedger.mandateOf inLedger.collectionOf keptDue timely lastDay lapseEnd ruled
 ruledAnswer l e = thenRuled (checked e) (ruled l (e .date) (actionOf e))
 
-abbrev ruledAfter : Ledger → Event → Ledger
+unfoldable pub ruledAfter : Ledger → Event → Ledger
+unfolding ruledAnswer fresh putRow changed presentedOn newCollection treated effect
 ruledAfter l e = afterAnswer (ruledAnswer l e) (effect l (e .date) (actionOf e)) l
 
--- whoever unfolds it unfolds all that an answer is computed from
+unfoldable pub ruledRun : Ledger → List Event → Ledger
+unfolding ruledAfter
+ruledRun l [] = l
+ruledRun l (e ∷ es) = ruledRun (ruledAfter l e) es
+
 unfoldable pub ruledAnswers : Ledger → List Event → List ℕ
-unfolding leap leapDay monthLength isDate inRange daysBefore yearStart dayNumber yearAt monthAt dateIn dateAt dateOf computus easterSunday closedBy closed businessDay isOpen seek firstOpen openAfter lastOpenBefore firstBusinessDay lastBusinessDayBefore daysAfter businessDaysAfter monthCount dayOfMonthCount monthsAfter periodEnd firstFrom table rowOf rowFits fieldsFit checked bankOf lookup mandateOf collectionOf mandateAt collectionAt putRow fresh newMandate actionOf inLedger.mandateOf inLedger.collectionOf keptDue timely lastDay lapseEnd ruled changed presentedOn newCollection treated effect
+unfolding ruledAfter
 ruledAnswers l [] = []
 ruledAnswers l (e ∷ es) = answerNumber (ruledAnswer l e) ∷ ruledAnswers (ruledAfter l e) es
 
@@ -54,12 +60,18 @@ ruledAnswers l (e ∷ es) = answerNumber (ruledAnswer l e) ∷ ruledAnswers (rul
 
 module _ (l : Ledger) (e : Event) (f : fit l ≡ true) where
   answer-ruled : answer l e ≡ ruledAnswer l e
-  unfolding answer
+  unfolding answer ruledAnswer
   answer-ruled = rw f
 
   after-ruled : after l e ≡ ruledAfter l e
-  unfolding after
+  unfolding after ruledAfter
   after-ruled = rw answer-ruled
+
+run-ruled : (es : List Event) (l : Ledger) → Safe l → run l es ≡ ruledRun l es
+unfolding run ruledRun
+run-ruled [] l s = refl
+run-ruled (e ∷ es) l s =
+    run-ruled es (after l e) (after-safe l e s) ∙ ap (λ (k : Ledger). ruledRun k es) (after-ruled l e (s .fits))
 
 answers-ruled : (es : List Event) (l : Ledger) → Safe l → answers l es ≡ ruledAnswers l es
 unfolding answers ruledAnswers
@@ -70,9 +82,21 @@ answers-ruled (e ∷ es) l s =
     (answers-ruled es (after l e) (after-safe l e s)
     ∙ ap (λ (k : Ledger). ruledAnswers k es) (after-ruled l e (s .fits))))
 
-pub opened-answers : (t : Ledger) → sizesFit t ≡ true → (es : List Event) → answers (opened t) es ≡ ruledAnswers (fresh t) es
-opened-answers t z es =
-    answers-ruled es (opened t) (opened-safe t z) ∙ ap (λ (l : Ledger). ruledAnswers l es) (opened-done t z)
+-- ---- from an accepted opening on
+
+module _ (t : Ledger) (z : sizesFit t ≡ true) (es : List Event) where
+  pub opened-answers : answers (opened t) es ≡ ruledAnswers (fresh t) es
+  opened-answers =
+      answers-ruled es (opened t) (opened-safe t z) ∙ ap (λ (l : Ledger). ruledAnswers l es) (opened-done t z)
+
+  pub opened-run : run (opened t) es ≡ ruledRun (fresh t) es
+  opened-run = run-ruled es (opened t) (opened-safe t z) ∙ ap (λ (l : Ledger). ruledRun l es) (opened-done t z)
+
+  -- the answer to one event more
+  pub opened-answer : (e : Event) → answer (run (opened t) es) e ≡ ruledAnswer (ruledRun (fresh t) es) e
+  opened-answer e =
+      answer-ruled (run (opened t) es) e (run-safe es (opened t) (opened-safe t z) .fits)
+      ∙ ap (λ (l : Ledger). ruledAnswer l e) opened-run
 
 -- ---- what the program lends has the sizes asked for
 

@@ -1,4 +1,4 @@
--- The example of document 01, "The text line": seven events, their answers and the positions after them. Assumes nothing.
+-- The example of document 01, "The text line": seven lines, their answers and the positions after them. Assumes nothing.
 use mathlib.Core.Path.{_≡_}
 use mathlib.Core.Bool.{true, cond, _&&_}
 use mathlib.Core.List.{List, [], _∷_}
@@ -55,7 +55,10 @@ events =
     ∷ event 10 20240412 0 70 0 0 0 0 0
     ∷ []
 
--- a position that is written at the end: its kind, number and cents
+abbrev pub numbers : List ℕ
+numbers = 0 ∷ 0 ∷ 0 ∷ 7 ∷ 0 ∷ 0 ∷ 15 ∷ []
+
+-- a position: its kind, number and cents
 pub record Position : Type 0 where
   pub kind : ℕ
   pub number : ℕ
@@ -64,30 +67,31 @@ pub record Position : Type 0 where
 abbrev pub position : ℕ → ℕ → ℤ → Position
 position k n z = record { kind = k; number = n; cents = z }
 
-abbrev pub listing : List Position
-listing =
+abbrev pub positions : List Position
+positions =
     position 1 1 (negℤ (pos 10))
     ∷ position 3 1 (negℤ (pos 10))
     ∷ position 3 2 (pos 10)
     ∷ position 4 0 (pos 10)
     ∷ []
 
--- the cents of a position in a listing; 0 where it is not written
+-- the cents of a position; 0 where it is not listed
 abbrev pub centsIn : List Position → ℕ → ℕ → ℤ
 centsIn [] kind number = pos 0
 centsIn (p ∷ ps) kind number = cond (eqb kind (p .kind) && eqb number (p .number)) (p .cents) (centsIn ps kind number)
 
--- the statement
+-- ---- the statement
+
 pub record Example : Type 0 where
-  -- the program writes the output for the input, byte for byte
-  pub writes : written (opened lent) (textOf input) ≡ textOf output
-  -- the input says these events
-  pub says : eventsText (runAt (opened lent) 0 []) (textOf input) ≡ events
   -- opening is accepted
   pub opens : opening lent .number ≡ 0
-  -- each event is answered as in the paper
-  pub answered : answers (opened lent) events ≡ 0 ∷ 0 ∷ 0 ∷ 7 ∷ 0 ∷ 0 ∷ 15 ∷ []
-  -- and after them every query within its limits
+  -- the input says the events
+  pub reads : eventsText (runAt (opened lent) 0 []) (textOf input) ≡ events
+  -- each is answered its number
+  pub answered : answers (opened lent) events ≡ numbers
+  -- after them every query within its limits is answered, with the cents listed or 0
   pub figures :
       (kind number : ℕ) → inQuery kind number ≡ true
-      → query (run (opened lent) events) kind number ≡ Figure (centsIn listing kind number)
+      → query (run (opened lent) events) kind number ≡ Figure (centsIn positions kind number)
+  -- the program writes the output for the input, byte for byte
+  pub writes : written (opened lent) (textOf input) ≡ textOf output
