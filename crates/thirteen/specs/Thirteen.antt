@@ -67,23 +67,30 @@ collection = record {
 pub data Question : Type 0 where
   Easter : ℕ → Question  -- of a year
   Kept : ℕ → Question  -- the kept due of a requested date
-  Return : ℕ → Question  -- the answer to one on a date
-  Refund : ℕ → ℕ → Question  -- of a code, 0 authorised and 1 unauthorised
   Months : ℕ → ℕ → Question  -- a number of them after a date
-  Collect : ℕ → ℕ → Question  -- the answer to one on a date, of a due
+  Answer : Event → Question  -- of the ledger, to an event
   Cents : ℕ → ℕ → ℕ → Question  -- K of an amount, a rate and days
 
-abbrev pub answerTo : Event → ℕ
-answerTo e = answerNumber (answer book e)
+-- on a date
+abbrev pub return : ℕ → Question
+return date = Answer (event 8 date 0 70 0 0 0 0 0)
+
+abbrev pub authorised : ℕ → Question
+authorised date = Answer (event 9 date 0 70 360 0 0 0 0)
+
+abbrev pub unauthorised : ℕ → Question
+unauthorised date = Answer (event 9 date 0 70 360 0 0 0 1)
+
+-- on a date, of a due
+abbrev pub collect : ℕ → ℕ → Question
+collect date due = Answer (event 5 date 7 71 0 0 10000 due 1)
 
 -- what the definitions say
 abbrev pub said : Question → ℕ
 said (Easter year) = dateIn (easterOf year)
 said (Kept requested) = keptDue requested
-said (Return date) = answerTo (event 8 date 0 70 0 0 0 0 0)
-said (Refund code date) = answerTo (event 9 date 0 70 360 0 0 0 code)
 said (Months n date) = dateIn (monthsAfter (record { 0 = n }) date)
-said (Collect date due) = answerTo (event 5 date 7 71 0 0 10000 due 1)
+said (Answer e) = answerNumber (answer book e)
 said (Cents amount rate days) = compensationFor amount rate days
 
 -- ---- the table
@@ -99,15 +106,15 @@ unfoldable pub table : List Row
 table =
     row (Easter 2024) 20240331
     ∷ row (Kept 20240329) 20240402
-    ∷ row (Return 20240409) 0
-    ∷ row (Return 20240410) 17
-    ∷ row (Refund 0 20240530) 0
-    ∷ row (Refund 0 20240531) 17
-    ∷ row (Refund 1 20250605) 0
-    ∷ row (Refund 1 20250606) 17
+    ∷ row (return 20240409) 0
+    ∷ row (return 20240410) 17
+    ∷ row (authorised 20240530) 0
+    ∷ row (authorised 20240531) 17
+    ∷ row (unauthorised 20250605) 0
+    ∷ row (unauthorised 20250606) 17
     ∷ row (Months 13 20250131) 20260228
-    ∷ row (Collect 20270325 20270402) 0
-    ∷ row (Collect 20270402 20270405) 14
+    ∷ row (collect 20270325 20270402) 0
+    ∷ row (collect 20270402 20270405) 14
     ∷ row (Cents 5000 360 1) 1
     ∷ row (Cents 5000 360 0) 0
     ∷ []
@@ -128,11 +135,11 @@ abbrev pub questions : List Question
 questions =
     Easter 2024
     ∷ Kept 20240329
-    ∷ Return 20240409 ∷ Return 20240410
-    ∷ Refund 0 20240530 ∷ Refund 0 20240531
-    ∷ Refund 1 20250605 ∷ Refund 1 20250606
+    ∷ return 20240409 ∷ return 20240410
+    ∷ authorised 20240530 ∷ authorised 20240531
+    ∷ unauthorised 20250605 ∷ unauthorised 20250606
     ∷ Months 13 20250131
-    ∷ Collect 20270325 20270402 ∷ Collect 20270402 20270405
+    ∷ collect 20270325 20270402 ∷ collect 20270402 20270405
     ∷ Cents 5000 360 1 ∷ Cents 5000 360 0
     ∷ []
 

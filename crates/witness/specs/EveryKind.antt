@@ -1,5 +1,5 @@
--- Every kind of event is accepted, with each of its codes: one list of events, all answered 0, that has one event of every
--- kind and code there is. Document 01, "Ten events". Assumes nothing.
+-- Every kind of event is accepted, with each of its codes: one list of events that has them all, each answered 0.
+-- Document 01, "Ten events". Assumes nothing.
 use mathlib.Core.Path.{_≡_}
 use mathlib.Core.Bool.{Bool, true, false, _&&_, _||_}
 use mathlib.Core.List.{List, [], _∷_}
@@ -11,6 +11,37 @@ use Rattle.events.specs.declared.limits.Checked.the-variants.{Within}
 use Rattle.events.specs.Limits.{checked}
 use Rattle.tables.specs.Opening.{opened}
 use Rattle.witness.specs.Opening.{event, lent, answers}
+
+-- ---- the ten kinds with their codes
+
+pub record Sort : Type 0 where
+  pub kind : ℕ
+  pub code : ℕ
+
+abbrev pub sort : ℕ → ℕ → Sort
+sort k c = record { kind = k; code = c }
+
+unfoldable pub sorts : List Sort
+sorts =
+    sort 1 0  -- creditor
+    ∷ sort 2 0  -- mandate: recurrent, one-off
+    ∷ sort 2 1
+    ∷ sort 3 0  -- amend: debtor bank, creditor
+    ∷ sort 3 1
+    ∷ sort 4 0  -- cancel
+    ∷ sort 5 0  -- collect: FRST, RCUR, FNAL, OOFF
+    ∷ sort 5 1
+    ∷ sort 5 2
+    ∷ sort 5 3
+    ∷ sort 6 0  -- settle
+    ∷ sort 7 0  -- reject
+    ∷ sort 8 0  -- return
+    ∷ sort 9 0  -- refund: authorised, unauthorised
+    ∷ sort 9 1
+    ∷ sort 10 0  -- reversal
+    ∷ []
+
+-- ---- the events
 
 unfoldable pub events : List Event
 events =
@@ -39,14 +70,27 @@ events =
     ∷ event 9 20250612 0 71 360 0 0 0 1
     ∷ []
 
--- one of the events is of the kind and code
-unfoldable pub has : List Event → ℕ → ℕ → Bool
-has [] kind code = false
-has (e ∷ es) kind code = (eqb (e .kind) kind && eqb (e .code) code) || has es kind code
+-- ---- the statement
 
--- the statement
+abbrev pub sortOf : Event → Sort
+sortOf e = sort (e .kind) (e .code)
+
+abbrev pub sortsOf : List Event → List Sort
+sortsOf [] = []
+sortsOf (e ∷ es) = sortOf e ∷ sortsOf es
+
+abbrev pub isIn : List Sort → Sort → Bool
+isIn [] s = false
+isIn (x ∷ xs) s = (eqb (x .kind) (s .kind) && eqb (x .code) (s .code)) || isIn xs s
+
+abbrev pub allIn : List Sort → List Sort → Bool
+allIn xs [] = true
+allIn xs (s ∷ ss) = isIn xs s && allIn xs ss
+
 pub record EveryKind : Type 0 where
-  -- whatever the kind and code of an event within its limits, the list has one of them
-  pub complete : (e : Event) → checked e ≡ Within → has events (e .kind) (e .code) ≡ true
-  -- and each event of the list is accepted
+  -- the list has an event of each kind and code
+  pub covers : allIn (sortsOf events) sorts ≡ true
+  -- no event within its limits is of another
+  pub complete : (e : Event) → checked e ≡ Within → isIn sorts (sortOf e) ≡ true
+  -- and every event of the list is accepted
   pub accepted : answers (opened lent) events ≡ replicate (length events) 0
