@@ -44,11 +44,10 @@ agree? (r ∷ rs) = both (holds? r) (agree? rs)
 
 agree : (rs : List Row) → T (agree? rs) → Agree rs
 agree [] t = tt
-agree (r ∷ rs) t =
-    (
-      said-computed (r .question) ∙ eqb→eq (computed (r .question)) (r .paper) (both-left (holds? r) (agree? rs) t),
-      agree rs (both-right (holds? r) (agree? rs) t),
-    )
+agree (r ∷ rs) t = (
+  said-computed (r .question) ∙ eqb→eq (computed (r .question)) (r .paper) (both-left (holds? r) (agree? rs) t),
+  agree rs (both-right (holds? r) (agree? rs) t),
+)
 
 pub thirteen : Thirteen
 unfolding table ruledRun easterOf compensationFor interest halfUp

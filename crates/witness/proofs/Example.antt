@@ -112,10 +112,10 @@ writes =
     let r = takeText (runAt l 0 []) (textOf input) in
     let at-end : toldEnd r ≡ [] = rw (nothing-begun l) in
     let listing =
-        program-kept lent lent-sizes (textOf input) .listing
-        ∙ ap (λ (es : List Event). toldJournal (journal (history l es))) (reads l)
-        ∙ ap (λ (h : List Entry). toldJournal (journal h)) history-is
-        ∙ listed
+    program-kept lent lent-sizes (textOf input) .listing
+    ∙ ap (λ (es : List Event). toldJournal (journal (history l es))) (reads l)
+    ∙ ap (λ (h : List Entry). toldJournal (journal h)) history-is
+    ∙ listed
     in
     rw (told l, answered, at-end, listing)
 
