@@ -71,7 +71,7 @@ pub data Question : Type 0 where
   Answer : Event → Question  -- of the ledger, to an event
   Cents : ℕ → ℕ → ℕ → Question  -- K of an amount, a rate and days
 
--- on a date
+-- of collection 70, on a date
 abbrev pub return : ℕ → Question
 return date = Answer (event 8 date 0 70 0 0 0 0 0)
 
@@ -81,7 +81,7 @@ authorised date = Answer (event 9 date 0 70 360 0 0 0 0)
 abbrev pub unauthorised : ℕ → Question
 unauthorised date = Answer (event 9 date 0 70 360 0 0 0 1)
 
--- on a date, of a due
+-- on mandate 7, on a date, of a due that is a business day and so is kept
 abbrev pub collect : ℕ → ℕ → Question
 collect date due = Answer (event 5 date 7 71 0 0 10000 due 1)
 
@@ -130,17 +130,22 @@ abbrev pub questionsOf : List Row → List Question
 questionsOf [] = []
 questionsOf (r ∷ rs) = r .question ∷ questionsOf rs
 
--- the questions of the paper, in its order
+-- the questions of the paper once more, in its order, with each event written out
 abbrev pub questions : List Question
 questions =
     Easter 2024
     ∷ Kept 20240329
-    ∷ return 20240409 ∷ return 20240410
-    ∷ authorised 20240530 ∷ authorised 20240531
-    ∷ unauthorised 20250605 ∷ unauthorised 20250606
+    ∷ Answer (event 8 20240409 0 70 0 0 0 0 0)
+    ∷ Answer (event 8 20240410 0 70 0 0 0 0 0)
+    ∷ Answer (event 9 20240530 0 70 360 0 0 0 0)
+    ∷ Answer (event 9 20240531 0 70 360 0 0 0 0)
+    ∷ Answer (event 9 20250605 0 70 360 0 0 0 1)
+    ∷ Answer (event 9 20250606 0 70 360 0 0 0 1)
     ∷ Months 13 20250131
-    ∷ collect 20270325 20270402 ∷ collect 20270402 20270405
-    ∷ Cents 5000 360 1 ∷ Cents 5000 360 0
+    ∷ Answer (event 5 20270325 7 71 0 0 10000 20270402 1)
+    ∷ Answer (event 5 20270402 7 71 0 0 10000 20270405 1)
+    ∷ Cents 5000 360 1
+    ∷ Cents 5000 360 0
     ∷ []
 
 pub record Thirteen : Type 0 where

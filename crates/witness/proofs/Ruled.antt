@@ -1,5 +1,5 @@
 -- An opened ledger stays fit, whatever the events, so they are answered by the rules alone: no answer need test the memory.
--- To cite: `opened-answers`, `opened-run`, `opened-answer`, `history-answers`. Assumes nothing.
+-- To cite: `opened-answers`, `opened-run`, `opened-fit`, `opened-answer`, `history-answers`. Assumes nothing.
 use mathlib.Core.Path.{_≡_, refl, ap, _∙_}
 use mathlib.Core.Bool.{Bool, true, false}
 use mathlib.Core.List.{List, [], _∷_}
@@ -92,10 +92,13 @@ module _ (t : Ledger) (z : sizesFit t ≡ true) (es : List Event) where
   pub opened-run : run (opened t) es ≡ ruledRun (fresh t) es
   opened-run = run-ruled es (opened t) (opened-safe t z) ∙ ap (λ (l : Ledger). ruledRun l es) (opened-done t z)
 
+  pub opened-fit : fit (run (opened t) es) ≡ true
+  opened-fit = run-safe es (opened t) (opened-safe t z) .fits
+
   -- the answer to one event more
   pub opened-answer : (e : Event) → answer (run (opened t) es) e ≡ ruledAnswer (ruledRun (fresh t) es) e
   opened-answer e =
-      answer-ruled (run (opened t) es) e (run-safe es (opened t) (opened-safe t z) .fits)
+      answer-ruled (run (opened t) es) e opened-fit
       ∙ ap (λ (l : Ledger). ruledAnswer l e) opened-run
 
 -- ---- what the program lends has the sizes asked for

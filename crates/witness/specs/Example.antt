@@ -10,9 +10,8 @@ use Rattle.events.specs.declared.Event.{Event}
 use Rattle.tables.specs.Opening.{opening, opened}
 use Rattle.model.specs.declared.QueryAnswer.the-variants.{Figure}
 use Rattle.model.specs.Step.{inQuery, query, run}
-use Rattle.report.specs.Run.{runAt, eventsText}
 use Rattle.witness.specs.Opening.{event, lent, answers}
-use Rattle.witness.specs.Text.{textOf, written}
+use Rattle.witness.specs.Text.{textOf, readOf, takenOf, written}
 
 -- ---- the input and the output, as they are printed
 
@@ -85,8 +84,8 @@ centsIn (p ∷ ps) kind number = cond (eqb kind (p .kind) && eqb number (p .numb
 pub record Example : Type 0 where
   -- opening is accepted
   pub opens : opening lent .number ≡ 0
-  -- the input says the events
-  pub reads : eventsText (runAt (opened lent) 0 []) (textOf input) ≡ events
+  -- the lines of the input are read as the events
+  pub reads : readOf input ≡ takenOf events
   -- each is answered its number
   pub answered : answers (opened lent) events ≡ numbers
   -- after them every query within its limits is answered, with the cents listed or 0
