@@ -16,7 +16,7 @@ use Rattle.tables.specs.Ledger.{Ledger}
 use Rattle.model.specs.declared.Answer.{Answer}
 use Rattle.model.specs.declared.Answer.the-variants.{Accepted, Refused}
 use Rattle.index.specs.Index.{Indexed}
-use Rattle.model.proofs.Laws.Invariant.{Safe}
+use Rattle.model.specs.Bounds.{Safe}
 use Rattle.report.specs.Layout.{answerLength}
 use Rattle.report.specs.Run.{Run, runAt, kept, answerTo, afterLine, ended, toldEnded, takeText, toldText, endText, toldEnd}
 use Rattle.book.specs.declared.Outcome.{Outcome}
