@@ -20,9 +20,8 @@ use Rattle.tables.specs.Ledger.{Ledger}
 use Rattle.tables.specs.Opening.{Outcome, opened}
 use Rattle.tables.proofs.Laws.Opening.{opening-done}
 use Rattle.model.specs.declared.QueryAnswer.the-variants.{Figure}
-use Rattle.model.specs.Actions.{newMandate, actionOf}
 use Rattle.model.specs.Step.{inQuery, figureOf, query, run, Entry, history}
-use Rattle.model.specs.Journal.{Journal, newNoted, notedPresented, notedCollection, notedSettled, note, journalFrom, journal, figureIn}
+use Rattle.model.specs.Journal.{Journal, newNoted, collectedOn, notedCollection, noteCollect, notedSettled, noteSettle, noteRefund, paidOn, noteKind, journalFrom, journal, figureIn}
 use Rattle.model.proofs.Laws.Theorem.{demand3}
 use Rattle.report.specs.Layout.{signedPadded, signedField, answerLine, positionLine}
 use Rattle.report.specs.Run.{runAt, takeText, toldText, toldFigures, toldKind, toldPositions}
@@ -44,7 +43,7 @@ history-is = history-answers events (opened lent) ∙ ap (entries events) answer
 
 -- the journal after the example; whoever unfolds it unfolds all that its figures are computed from
 closing : Journal
-unfolding events journalFrom note newMandate actionOf newNoted notedPresented notedCollection notedSettled compensationFor interest halfUp leap leapDay daysBefore yearStart dayNumber
+unfolding events journalFrom noteKind newNoted collectedOn notedCollection noteCollect notedSettled noteSettle noteRefund paidOn compensationFor interest halfUp leap leapDay daysBefore yearStart dayNumber
 closing = journal (entries events numbers)
 
 -- a number is k or not

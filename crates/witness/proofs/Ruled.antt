@@ -32,7 +32,7 @@ use Rattle.model.specs.Deadlines.{keptDue, timely, lastDay, lapseEnd}
 use Rattle.model.specs.Checks.{ruled}
 use Rattle.model.specs.Effects.{changed, presentedOn, newCollection, treated, effect}
 use Rattle.model.specs.Step.{answerNumber, isAccepted, thenRuled, answer, afterAnswer, after, run, Entry, entry, history}
-use Rattle.model.proofs.Laws.Invariant.{Safe}
+use Rattle.model.specs.Bounds.{Safe}
 use Rattle.model.proofs.Laws.Batch.{after-safe, run-safe, opened-safe}
 use Rattle.witness.specs.Opening.{lent, answers}
 
