@@ -14,6 +14,7 @@ use Rattle.common.proofs.Tests.{and-halves, and-true, true-or-false}
 use Rattle.calendar.specs.Gregorian.{leap, leapDay}
 use Rattle.calendar.specs.DayNumber.{daysBefore, yearStart, dayNumber}
 use Rattle.positions.specs.Compensation.{compensation as compensationFor, interest, halfUp}
+use Rattle.events.specs.declared.line.LineAnswer.{LineAnswer}
 use Rattle.events.specs.Line.{padded, fieldBytes, readLine, readDigits, readNumber, readField}
 use Rattle.tables.specs.Limits.{creditorCount, debtorCount, bankCount}
 use Rattle.tables.specs.Ledger.{Ledger}
@@ -145,17 +146,22 @@ abbrev answerLines : ℕ → List ℕ → List ℕ
 answerLines n [] = []
 answerLines n (a ∷ rest) = answerLine n a ++ answerLines (n + 1) rest
 
+-- whoever unfolds it unfolds all that is computed to read a line
+computedRead : List ℕ → LineAnswer
+unfolding readLine readDigits readNumber readField ruledAnswer
+computedRead line = readLine line
+
 reads : readOf input ≡ takenOf events
-unfolding events readLine readDigits readNumber readField ruledAnswer
+unfolding events computedRead
 reads = refl
 
 module _ (l : Ledger) where
   told : toldText (runAt l 0 []) (textOf input) ≡ answerLines 1 (answers l events)
-  unfolding toldText events readLine readDigits readNumber readField answers ruledAnswer
+  unfolding toldText events computedRead answers
   told = refl
 
   taken : takeText (runAt l 0 []) (textOf input) ≡ runAt (run l events) 7 []
-  unfolding takeText events readLine readDigits readNumber readField run ruledAnswer
+  unfolding takeText events computedRead run
   taken = refl
 
 -- ---- the statement
