@@ -138,9 +138,13 @@ abbrev pub taken : Fields → LineAnswer
 taken Unreadable = lines.Refused BadLine
 taken (Values vs) = answerOf (eventOf vs) (checked (eventOf vs))
 
+-- 74 columns and byte 10
+abbrev pub isLine : List ℕ → Bool
+isLine l = eqb (length l) lineLength && eqb (getD l columns 0) lineEnd
+
 unfoldable pub readLine : List ℕ → LineAnswer
 readLine l =
-    cond (eqb (length l) lineLength && eqb (getD l columns 0) lineEnd)
+    cond (isLine l)
     (taken (readFields widths 0 l))
     (lines.Refused BadLine)
 
@@ -197,7 +201,7 @@ fieldsNumber (Values vs) = limitNumber (eventOf vs)
 
 unfoldable pub readerNumber : List ℕ → ℕ
 readerNumber l =
-    cond (eqb (length l) lineLength && eqb (getD l columns 0) lineEnd)
+    cond (isLine l)
     (fieldsNumber (readFields widths 0 l))
     1
 
