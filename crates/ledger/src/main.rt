@@ -1,6 +1,16 @@
 // The program `ledger` of document 01, "The text line": events from standard input, one a line; to standard output an
 // answer for each line, then the positions and the total compensation. It reads and writes; what the bytes mean, what is
 // answered to them and how that is written is in the libraries, proved.
+ghost use mathlib.Core.Path.{_≡_};
+ghost use mathlib.Core.Bool.{true, false};
+ghost use mathlib.Core.List.{[]};
+ghost use Prim.Native.Nat.{_*_, _≤_};
+ghost use lib.ListN.{length};
+ghost use Rattle.tables.specs.Ledger.{ledger};
+ghost use Rattle.report.specs.Layout.{answerLength};
+ghost use Rattle.report.specs.Run.{runAt, toldPositions, listed};
+ghost use Rattle.ledger.specs.Input.{Behind, Given, Turned, Taken};
+ghost use Rattle.ledger.specs.Program.{Begins, Roomy, InFront, Shown};
 use book::text::take_text;
 use libc::STDIN_FILENO;
 use libc::STDOUT_FILENO;
@@ -14,17 +24,20 @@ use tables::opening::open_ledger;
 const LINES: u64 = 999_999;
 
 // How far a run is: the header of the ledger, the lines answered, the bytes at the front of the text that begin a line,
-// whether there may be more input, and whether what is written still finds a reader.
+// the bytes of answers to be told, and whether what is told still finds a reader.
 struct Progress {
     header: Header,
     lines: u64,
     begun: usize,
-    more: bool,
+    told: usize,
     heard: bool,
 }
 
 // Reads once behind the bytes that begin a line, and gives the bytes of the text then; no more than before at the end.
-fn read_behind(text: &mut [u8], begun: usize) -> usize {
+fn read_behind(text: &mut [u8], begun: usize) -> usize
+    requires { ⌜ begun ≤ length (now text) ⌝ }
+    ensures { λ r. ⌜ Behind begun (now (text .entry)) r (now (text .exit)) ⌝ }
+{
     if begun >= text.len() {
         return begun;
     }
@@ -32,17 +45,21 @@ fn read_behind(text: &mut [u8], begun: usize) -> usize {
     begun + io::count(got, &text[begun..])
 }
 
-// Writes the first bytes of a buffer, and says whether they found a reader.
-fn tell(out: &[u8], bytes: usize) -> bool {
-    if bytes > out.len() {
+// Writes the first bytes of a buffer if somebody listens, and says whether somebody still does.
+fn tell(heard: bool, out: &[u8], bytes: usize) -> bool
+    requires { ⌜ bytes ≤ length (now out) ⌝ }
+    ensures { λ r. ⌜ (heard ≡ false → r ≡ false) ⌝ }
+{
+    if !heard {
         return false;
     }
     io::write_all(STDOUT_FILENO, &out[..bytes])
 }
 
-// Reads once, and answers the lines that have ended.
+// Answers the lines that have ended in the first `filled` bytes of the text.
 fn take_piece(
     p: Progress,
+    filled: usize,
     text: &mut [u8],
     out: &mut [u8],
     mandates: &mut [u64],
@@ -51,19 +68,12 @@ fn take_piece(
     creditor_positions: &mut [i64],
     debtor_positions: &mut [i64],
     bank_positions: &mut [i64],
-) -> Progress {
+) -> Progress
+    requires { ⌜ Given filled (now text) (now out) ⌝ }
+    ensures { λ r. ⌜ Turned (ledger (p .header) (now (mandates .entry)) (now (collections .entry)) (now (creditors .entry)) (now («creditor_positions» .entry)) (now («debtor_positions» .entry)) (now («bank_positions» .entry))) p filled (now (text .entry)) (now (out .entry)) r
+        (ledger (r .header) (now (mandates .exit)) (now (collections .exit)) (now (creditors .exit)) (now («creditor_positions» .exit)) (now («debtor_positions» .exit)) (now («bank_positions» .exit))) (now (text .exit)) (now (out .exit)) ⌝ }
+{
     let header = p.header;
-    let begun = p.begun;
-    let filled = read_behind(text, begun);
-    if filled == begun {
-        return Progress {
-            header: header,
-            lines: p.lines,
-            begun: begun,
-            more: false,
-            heard: p.heard,
-        };
-    }
     let piece = take_text(
         header,
         p.lines,
@@ -78,20 +88,19 @@ fn take_piece(
         bank_positions,
     );
     let after = piece.header;
-    let told = piece.told;
     Progress {
         header: after,
         lines: piece.lines,
         begun: piece.begun,
-        more: piece.lines < LINES,
-        heard: tell(out, told),
+        told: piece.told,
+        heard: p.heard,
     }
 }
 
 // The whole input, piece by piece, until it ends, the last line is answered or nobody listens. A proved loop has to
 // end, and nothing says that the input does: so the loop counts its turns down from a number that no run uses up.
 fn take_input(
-    start: Progress,
+    header: Header,
     text: &mut [u8],
     out: &mut [u8],
     mandates: &mut [u64],
@@ -100,13 +109,27 @@ fn take_input(
     creditor_positions: &mut [i64],
     debtor_positions: &mut [i64],
     bank_positions: &mut [i64],
-) -> Progress {
-    let mut p = start;
+) -> Progress
+    requires { ⌜ answerLength * length (now text) ≤ length (now out) ⌝ }
+    ensures { λ r. ⌜ Taken (runAt (ledger header (now (mandates .entry)) (now (collections .entry)) (now (creditors .entry)) (now («creditor_positions» .entry)) (now («debtor_positions» .entry)) (now («bank_positions» .entry))) 0 [])
+        (ledger (r .header) (now (mandates .exit)) (now (collections .exit)) (now (creditors .exit)) (now («creditor_positions» .exit)) (now («debtor_positions» .exit)) (now («bank_positions» .exit))) (r .lines) (r .begun) (now (text .exit)) ⌝ }
+{
+    let mut p = Progress {
+        header: header,
+        lines: 0,
+        begun: 0,
+        told: 0,
+        heard: true,
+    };
+    let mut more = true;
     let mut turns = u64::MAX;
-    while turns > 0 && p.more & p.heard {
+    while (0 < turns) & more & p.heard {
         turns -= 1;
+        let begun = p.begun;
+        let filled = read_behind(text, begun);
         p = take_piece(
             p,
+            filled,
             text,
             out,
             mandates,
@@ -116,39 +139,44 @@ fn take_input(
             debtor_positions,
             bank_positions,
         );
+        p.heard = tell(p.heard, out, p.told);
+        more = (begun < filled) & (p.lines < LINES);
     }
     p
 }
 
-// Answers a line that has begun where the input ends, and lists the positions.
+// Answers a line that has begun where the input ends, and lists the positions; gives the bytes of the listing.
 fn finish(
     p: Progress,
     out: &mut [u8],
-    mandates: &mut [u64],
-    collections: &mut [u64],
-    creditors: &mut [u64],
-    creditor_positions: &mut [i64],
-    debtor_positions: &mut [i64],
-    bank_positions: &mut [i64],
-) {
+    mandates: &[u64],
+    collections: &[u64],
+    creditors: &[u64],
+    creditor_positions: &[i64],
+    debtor_positions: &[i64],
+    bank_positions: &[i64],
+) -> usize
+    requires { ⌜ listed (ledger (p .header) (now mandates) (now collections) (now creditors) (now «creditor_positions») (now «debtor_positions») (now «bank_positions»)) (now out) ≡ true ⌝ }
+    ensures { λ r. ⌜ InFront (toldPositions (ledger (p .header) (now (mandates .entry)) (now (collections .entry)) (now (creditors .entry)) (now («creditor_positions» .entry)) (now («debtor_positions» .entry)) (now («bank_positions» .entry)))) r (now (out .exit)) ⌝ }
+{
     let header = p.header;
     let end = end_text(p.lines, p.begun, out);
-    if tell(out, end.told) {
-        let listing = list_positions(
-            header,
-            mandates,
-            collections,
-            creditors,
-            creditor_positions,
-            debtor_positions,
-            bank_positions,
-            out,
-        );
-        tell(out, listing.bytes);
-    }
+    let heard = tell(p.heard, out, end.told);
+    let listing = list_positions(
+        header,
+        mandates,
+        collections,
+        creditors,
+        creditor_positions,
+        debtor_positions,
+        bank_positions,
+        out,
+    );
+    tell(heard, out, listing.bytes);
+    listing.bytes
 }
 
-// The lines of the input, and then the positions, by a text and a buffer for answers.
+// The lines of the input, and then the positions, by a text and a buffer for answers; gives the bytes of the listing.
 fn run_by(
     header: Header,
     text: &mut [u8],
@@ -159,16 +187,13 @@ fn run_by(
     creditor_positions: &mut [i64],
     debtor_positions: &mut [i64],
     bank_positions: &mut [i64],
-) {
-    let start = Progress {
-        header: header,
-        lines: 0,
-        begun: 0,
-        more: true,
-        heard: true,
-    };
+) -> usize
+    requires { ⌜ Begins (ledger header (now mandates) (now collections) (now creditors) (now «creditor_positions») (now «debtor_positions») (now «bank_positions»)) ⌝ }
+    requires { ⌜ Roomy (now text) (now out) ⌝ }
+    ensures { λ r. ⌜ Shown (ledger header (now (mandates .entry)) (now (collections .entry)) (now (creditors .entry)) (now («creditor_positions» .entry)) (now («debtor_positions» .entry)) (now («bank_positions» .entry))) r (now (out .exit)) ⌝ }
+{
     let p = take_input(
-        start,
+        header,
         text,
         out,
         mandates,
@@ -178,9 +203,6 @@ fn run_by(
         debtor_positions,
         bank_positions,
     );
-    if !p.heard {
-        return;
-    }
     finish(
         p,
         out,
@@ -190,7 +212,7 @@ fn run_by(
         creditor_positions,
         debtor_positions,
         bank_positions,
-    );
+    )
 }
 
 // Lends the text and the buffer, which has room for an answer to each byte of the text. The text is large, since the memory
@@ -203,7 +225,9 @@ fn run(
     creditor_positions: &mut [i64],
     debtor_positions: &mut [i64],
     bank_positions: &mut [i64],
-) {
+)
+    requires { ⌜ Begins (ledger header (now mandates) (now collections) (now creditors) (now «creditor_positions») (now «debtor_positions») (now «bank_positions»)) ⌝ }
+{
     let mut text = [0u8; 262144];
     let mut out = [0u8; 2621440];
     run_by(

@@ -1,7 +1,9 @@
--- `run`: the buffer has its length by a law, since the checker does not count so far. Assumes nothing.
+-- `run` meets what it calls: the buffers have their lengths by laws, since the checker does not count so far. Assumes nothing.
 use mathlib.Core.Path.{_≡_, sym}
 use Prim.Native.Nat.{ℕ}
+use native.Mathlib.Omega.{arith}
 use lib.ListN.{length, replicate, length-replicate}
+use Rattle.ledger.proofs.Laws.Program.{roomy-lent}
 use borrow.Author.Needs.{needs}
 use Rattle.ledger.proofs.run.Statement.{statement}
 use Rattle.ledger.proofs.run.Tie as tie
@@ -16,7 +18,7 @@ slice-aggregate-run-by-2 : tie.Need-slice-aggregate-run-by-2
 slice-aggregate-run-by-2 c = long 2621440 0
 
 run-by-requires : tie.Need-run-by-requires
-run-by-requires c κs = search needs
+run-by-requires c κs = (c .before .before .before .before .before .before .before .before .before .before .before .pre, roomy-lent 262144 2621440 (omega arith) (omega arith))
 
 same-length : tie.Need-same-length
 same-length c = search needs

@@ -1,14 +1,24 @@
--- `take_input` is safe and ends: the measure is the turns that are left, and the lent slices keep their lengths.
--- Assumes nothing.
+-- `take_input` meets its contract: some bytes take the run from the start to where a turn begins, and those that it reads to
+-- where it ends. The measure is the turns that are left. Assumes nothing.
+use mathlib.Core.Path.{_≡_, refl, _∙_}
+use mathlib.Core.List.{[]}
+use native.Mathlib.Omega.{arith}
 use lib.ListN.{length}
-use mathlib.Core.Path.{_≡_}
 use borrow.Author.Needs.{needs}
+use Rattle.tables.specs.Ledger.{ledger}
+use Rattle.report.specs.Run.{runAt}
+use Rattle.ledger.specs.Input.{Taken}
+use Rattle.ledger.proofs.Laws.Input.{turned-told, turns-left, taken-none, taken-on}
 use Rattle.ledger.proofs.take_input.Statement.{statement}
 use Rattle.ledger.proofs.take_input.Tie as tie
 
 abbrev Inv-loop : tie.InvT-loop
-Inv-loop text₀ out₀ mandates₀ collections₀ creditors₀ creditor-positions₀ debtor-positions₀ bank-positions₀ p₀ turns₀ text out mandates collections creditors creditor-positions debtor-positions bank-positions p turns =
-    length text ≡ length text₀
+Inv-loop text₀ out₀ mandates₀ collections₀ creditors₀ creditor-positions₀ debtor-positions₀ bank-positions₀ p₀ more₀ turns₀ text out mandates collections creditors creditor-positions debtor-positions bank-positions p more turns =
+    Taken
+    (runAt (ledger (p₀ .header) mandates₀ collections₀ creditors₀ creditor-positions₀ debtor-positions₀ bank-positions₀) 0 [])
+    (ledger (p .header) mandates collections creditors creditor-positions debtor-positions bank-positions)
+    (p .lines) (p .begun) text
+    × length text ≡ length text₀
     × length out ≡ length out₀
     × length mandates ≡ length mandates₀
     × length collections ≡ length collections₀
@@ -18,22 +28,51 @@ Inv-loop text₀ out₀ mandates₀ collections₀ creditors₀ creditor-positio
     × length bank-positions ≡ length bank-positions₀
 
 abbrev μ-loop : tie.MeasureT-loop
-μ-loop text₀ out₀ mandates₀ collections₀ creditors₀ creditor-positions₀ debtor-positions₀ bank-positions₀ p₀ turns₀ text out mandates collections creditors creditor-positions debtor-positions bank-positions p turns = turns
+μ-loop text₀ out₀ mandates₀ collections₀ creditors₀ creditor-positions₀ debtor-positions₀ bank-positions₀ p₀ more₀ turns₀ text out mandates collections creditors creditor-positions debtor-positions bank-positions p more turns = turns
 
 loop-holds : tie.Need-loop-holds Inv-loop μ-loop
-loop-holds c = search needs
+loop-holds c = (taken-none _ _, refl, refl, refl, refl, refl, refl, refl, refl)
 
 sub-turns : tie.Need-sub-turns Inv-loop μ-loop
-sub-turns c = search needs
+sub-turns c =
+    let at = c .before .before .loop in
+    turns-left (at .turns) (at .more) (at .p .heard) (c .if1 .taken)
+
+read-behind-requires : tie.Need-read-behind-requires Inv-loop μ-loop
+read-behind-requires c κs = c .before .before .before .loop .inv .0 .inside
 
 take-piece-requires : tie.Need-take-piece-requires Inv-loop μ-loop
-take-piece-requires c κs = search needs
+take-piece-requires c κs =
+    let read = c .before .before .before .before .before .before .before .before .before .before .read-behind in
+    record {
+      inside = read .ensures .inside;
+      room = omega (arith, c .before .before .before .before .before .before .before .before .before .before .before .before .before .before .before .before .before .before .before .before .pre, read .kept .0);
+    }
+
+tell-requires : tie.Need-tell-requires Inv-loop μ-loop
+tell-requires c κs =
+    turned-told _ _ _ _ _ _ _ _ _ (c .before .before .before .before .before .before .before .before .before .before .before .before .before .before .take-piece .ensures)
 
 loop-less : tie.Need-loop-less Inv-loop μ-loop
-loop-less c = search needs
+loop-less c =
+    let at = c .before .before .before .before .before .before .before .before .before .before .before .before .before .before .before .before .before .before .before .before .before .before .before .before .before .before .before .before .before .before .before .loop in
+    omega (arith, turns-left (at .turns) (at .more) (at .p .heard) (c .before .before .before .before .before .before .before .before .before .before .before .before .before .before .before .before .before .before .before .before .before .before .before .before .before .before .before .before .before .if1 .taken))
 
 loop-again : tie.Need-loop-again Inv-loop μ-loop
-loop-again c = search needs
+loop-again c =
+    let at = c .before .before .before .before .before .before .before .before .before .before .before .before .before .before .before .before .before .before .before .before .before .before .before .before .before .before .before .before .before .before .before .loop in
+    let read = c .before .before .before .before .before .before .before .before .before .before .before .before .before .before .before .before .before .before .before .before .before .before .before .before .before .before .before .read-behind in
+    let turn = c .before .before .before .before .before .before .before .before .before .before .before .before .before .before .before .before .take-piece in (
+      taken-on _ _ _ _ (at .inv .0) _ _ (read .ensures) _ _ _ _ _ (turn .ensures),
+      turn .kept .1 .1 .0 ∙ read .kept .0 ∙ at .inv .1,
+      turn .kept .1 .1 .1 .0 ∙ at .inv .2,
+      turn .kept .1 .1 .1 .1 .0 ∙ at .inv .3,
+      turn .kept .1 .1 .1 .1 .1 .0 ∙ at .inv .4,
+      turn .kept .1 .1 .1 .1 .1 .1 .0 ∙ at .inv .5,
+      turn .kept .1 .1 .1 .1 .1 .1 .1 .0 ∙ at .inv .6,
+      turn .kept .1 .1 .1 .1 .1 .1 .1 .1 .0 ∙ at .inv .7,
+      turn .kept .1 .1 .1 .1 .1 .1 .1 .1 .1 .0 ∙ at .inv .8,
+    )
 
 same-length : tie.Need-same-length Inv-loop μ-loop
 same-length c = search needs
@@ -60,34 +99,7 @@ same-length-8 : tie.Need-same-length-8 Inv-loop μ-loop
 same-length-8 c = search needs
 
 returns : tie.Need-returns Inv-loop μ-loop
-returns c = search needs
-
-same-length-9 : tie.Need-same-length-9 Inv-loop μ-loop
-same-length-9 c = search needs
-
-same-length-10 : tie.Need-same-length-10 Inv-loop μ-loop
-same-length-10 c = search needs
-
-same-length-11 : tie.Need-same-length-11 Inv-loop μ-loop
-same-length-11 c = search needs
-
-same-length-12 : tie.Need-same-length-12 Inv-loop μ-loop
-same-length-12 c = search needs
-
-same-length-13 : tie.Need-same-length-13 Inv-loop μ-loop
-same-length-13 c = search needs
-
-same-length-14 : tie.Need-same-length-14 Inv-loop μ-loop
-same-length-14 c = search needs
-
-same-length-15 : tie.Need-same-length-15 Inv-loop μ-loop
-same-length-15 c = search needs
-
-same-length-16 : tie.Need-same-length-16 Inv-loop μ-loop
-same-length-16 c = search needs
-
-returns-2 : tie.Need-returns-2 Inv-loop μ-loop
-returns-2 c = search needs
+returns c = c .before .before .loop .inv .0
 
 pub take-input-spec : {M : Type 1} → statement M
 take-input-spec =
@@ -97,7 +109,9 @@ take-input-spec =
     μ-loop
     loop-holds
     sub-turns
+    read-behind-requires
     take-piece-requires
+    tell-requires
     loop-less
     loop-again
     same-length
@@ -108,13 +122,4 @@ take-input-spec =
     same-length-6
     same-length-7
     same-length-8
-    returns
-    same-length-9
-    same-length-10
-    same-length-11
-    same-length-12
-    same-length-13
-    same-length-14
-    same-length-15
-    same-length-16
-    returns-2)
+    returns)
