@@ -43,83 +43,7 @@ treated-number : (t : Treatment) (date : ℕ) (k : Collection) → treated t dat
 unfolding treated
 treated-number t date k = refl
 
--- ---- the effect of an action: of each table nothing is written, a row that was found, or the next row
-
-module _ (P : List ℕ → ℕ → List ℕ → ℕ → Type 0)
-    (same : (cells : List ℕ) (used : ℕ) → P cells used cells used)
-    (anew : (cells : List ℕ) (used n row : ℕ) (fields : List ℕ) → length fields ≡ stride → lookup cells used n ≡ At row
-        → getD fields 0 0 ≡ numberAt cells row → P cells used (putRow stride cells row fields) used)
-    (next : (cells : List ℕ) (used : ℕ) (fields : List ℕ) → length fields ≡ stride → P cells used (putRow stride cells used fields) (used + 1))
-    (l : Ledger) (date : ℕ) where
-  mandate-anew : (n row : ℕ) (m : Mandate)
-      → lookup (l .mandates) (l .mandatesUsed) n ≡ At row
-      → m .number ≡ mandateAt (l .mandates) row .number
-      → P (l .mandates) (l .mandatesUsed) (putMandate (l .mandates) row m) (l .mandatesUsed)
-  mandate-anew n row m f e =
-      anew (l .mandates) (l .mandatesUsed) n row (mandateCells m) refl f (e ∙ mandateAt-number (l .mandates) row)
-
-  collection-anew : (n row : ℕ) (k : Collection)
-      → lookup (l .collections) (l .collectionsUsed) n ≡ At row
-      → k .number ≡ collectionAt (l .collections) row .number
-      → P (l .collections) (l .collectionsUsed) (putCollection (l .collections) row k) (l .collectionsUsed)
-  collection-anew n row k f e =
-      anew (l .collections) (l .collectionsUsed) n row (collectionCells k) refl f (e ∙ collectionAt-number (l .collections) row)
-
-  abbrev Mandates : Ledger → Type 0
-  Mandates l' = P (l .mandates) (l .mandatesUsed) (l' .mandates) (l' .mandatesUsed)
-
-  abbrev Collections : Ledger → Type 0
-  Collections l' = P (l .collections) (l .collectionsUsed) (l' .collections) (l' .collectionsUsed)
-
-  -- of the row that was found, or of none
-  at-row : (Q : Ledger → Type 0) (f : Found) (g : ℕ → Ledger) → Q (dated l date) → ((row : ℕ) → f ≡ At row → Q (g row)) → Q (atRow f (dated l date) g)
-  at-row Q Nothing g none found = none
-  at-row Q (At row) g none found = found row refl
-
-  treat-mandates : (row : ℕ) (k : Collection) (t : Treatment) (c : Collection) → Mandates (postTreated (keepCollection (dated l date) row k) t date c)
-  treat-mandates row k Settle c = same (l .mandates) (l .mandatesUsed)
-  treat-mandates row k Reject c = same (l .mandates) (l .mandatesUsed)
-  treat-mandates row k (Undo way) c = same (l .mandates) (l .mandatesUsed)
-
-  treat-collections : (row : ℕ) (k : Collection) (t : Treatment) (c : Collection)
-      → P (l .collections) (l .collectionsUsed) (putCollection (l .collections) row k) (l .collectionsUsed)
-      → Collections (postTreated (keepCollection (dated l date) row k) t date c)
-  treat-collections row k Settle c g = g
-  treat-collections row k Reject c g = g
-  treat-collections row k (Undo way) c g = g
-
-  effect-mandates : (a : Action) → Mandates (effect l date a)
-  unfolding effect
-  effect-mandates (AddCreditor a b) = same (l .mandates) (l .mandatesUsed)
-  effect-mandates (AddMandate m) = next (l .mandates) (l .mandatesUsed) (mandateCells m) refl
-  effect-mandates (ChangeMandate n c) =
-      at-row Mandates (lookup (l .mandates) (l .mandatesUsed) n) _ (same (l .mandates) (l .mandatesUsed))
-      (λ row f. mandate-anew n row (changed c (mandateAt (l .mandates) row)) f (changed-number c (mandateAt (l .mandates) row)))
-  effect-mandates (Collect p) =
-      at-row Mandates (lookup (l .mandates) (l .mandatesUsed) (p .mandate)) _ (same (l .mandates) (l .mandatesUsed))
-      (λ row f. mandate-anew (p .mandate) row (presentedOn p (mandateAt (l .mandates) row)) f (presented-number p (mandateAt (l .mandates) row)))
-  effect-mandates (Treat n t) =
-      at-row Mandates (lookup (l .collections) (l .collectionsUsed) n) _ (same (l .mandates) (l .mandatesUsed))
-      (λ row f. treat-mandates row (treated t date (collectionAt (l .collections) row)) t (collectionAt (l .collections) row))
-
-  effect-collections : (a : Action) → Collections (effect l date a)
-  unfolding effect
-  effect-collections (AddCreditor a b) = same (l .collections) (l .collectionsUsed)
-  effect-collections (AddMandate m) = same (l .collections) (l .collectionsUsed)
-  effect-collections (ChangeMandate n c) =
-      at-row Collections (lookup (l .mandates) (l .mandatesUsed) n) _ (same (l .collections) (l .collectionsUsed))
-      (λ row f. same (l .collections) (l .collectionsUsed))
-  effect-collections (Collect p) =
-      at-row Collections (lookup (l .mandates) (l .mandatesUsed) (p .mandate)) _ (same (l .collections) (l .collectionsUsed))
-      (λ row f.
-      next (l .collections) (l .collectionsUsed) (collectionCells (newCollection (l .creditors) p (mandateAt (l .mandates) row))) refl)
-  effect-collections (Treat n t) =
-      at-row Collections (lookup (l .collections) (l .collectionsUsed) n) _ (same (l .collections) (l .collectionsUsed))
-      (λ row f.
-      let k = collectionAt (l .collections) row in
-      treat-collections row (treated t date k) t k (collection-anew n row (treated t date k) f (treated-number t date k)))
-
--- ---- an event
+-- ---- an event, by its effect
 
 -- what holds of a ledger, and of it after any effect, holds after an event
 after-cases : (P : Ledger → Type 0) (l : Ledger) (e : Event) → P l → P (effect l (e .date) (actionOf e)) → P (after l e)
@@ -129,21 +53,94 @@ after-cases P l e same changed = by-answer (isAccepted (answer l e)) refl
     by-answer true i = rw (after-accepted l e (is-accepted (answer l e) i)) changed
     by-answer false i = rw (after-refused l e i) same
 
+-- ---- what is written to each table: nothing, a row that was found, or the next row
+
 module _ (P : List ℕ → ℕ → List ℕ → ℕ → Type 0)
     (same : (cells : List ℕ) (used : ℕ) → P cells used cells used)
     (anew : (cells : List ℕ) (used n row : ℕ) (fields : List ℕ) → length fields ≡ stride → lookup cells used n ≡ At row
-        → getD fields 0 0 ≡ numberAt cells row → P cells used (putRow stride cells row fields) used)
-    (next : (cells : List ℕ) (used : ℕ) (fields : List ℕ) → length fields ≡ stride → P cells used (putRow stride cells used fields) (used + 1))
-    (l : Ledger) (e : Event) where
-  mandates-after : P (l .mandates) (l .mandatesUsed) (after l e .mandates) (after l e .mandatesUsed)
-  mandates-after =
-      after-cases (Mandates P same anew next l (e .date)) l e (same (l .mandates) (l .mandatesUsed))
-      (effect-mandates P same anew next l (e .date) (actionOf e))
+    → getD fields 0 0 ≡ numberAt cells row → P cells used (putRow stride cells row fields) used)
+    (next : (cells : List ℕ) (used : ℕ) (fields : List ℕ) → length fields ≡ stride → P cells used (putRow stride cells used fields) (used + 1)) where
+  module _ (l : Ledger) (date : ℕ) where
+    mandate-anew : (n row : ℕ) (m : Mandate)
+        → lookup (l .mandates) (l .mandatesUsed) n ≡ At row
+        → m .number ≡ mandateAt (l .mandates) row .number
+        → P (l .mandates) (l .mandatesUsed) (putMandate (l .mandates) row m) (l .mandatesUsed)
+    mandate-anew n row m f e =
+        anew (l .mandates) (l .mandatesUsed) n row (mandateCells m) refl f (e ∙ mandateAt-number (l .mandates) row)
 
-  collections-after : P (l .collections) (l .collectionsUsed) (after l e .collections) (after l e .collectionsUsed)
-  collections-after =
-      after-cases (Collections P same anew next l (e .date)) l e (same (l .collections) (l .collectionsUsed))
-      (effect-collections P same anew next l (e .date) (actionOf e))
+    collection-anew : (n row : ℕ) (k : Collection)
+        → lookup (l .collections) (l .collectionsUsed) n ≡ At row
+        → k .number ≡ collectionAt (l .collections) row .number
+        → P (l .collections) (l .collectionsUsed) (putCollection (l .collections) row k) (l .collectionsUsed)
+    collection-anew n row k f e =
+        anew (l .collections) (l .collectionsUsed) n row (collectionCells k) refl f (e ∙ collectionAt-number (l .collections) row)
+
+    abbrev Mandates : Ledger → Type 0
+    Mandates l' = P (l .mandates) (l .mandatesUsed) (l' .mandates) (l' .mandatesUsed)
+
+    abbrev Collections : Ledger → Type 0
+    Collections l' = P (l .collections) (l .collectionsUsed) (l' .collections) (l' .collectionsUsed)
+
+    -- of the row that was found, or of none
+    at-row : (Q : Ledger → Type 0) (f : Found) (g : ℕ → Ledger) → Q (dated l date) → ((row : ℕ) → f ≡ At row → Q (g row)) → Q (atRow f (dated l date) g)
+    at-row Q Nothing g none found = none
+    at-row Q (At row) g none found = found row refl
+
+    treat-mandates : (row : ℕ) (k : Collection) (t : Treatment) (c : Collection) → Mandates (postTreated (keepCollection (dated l date) row k) t date c)
+    treat-mandates row k Settle c = same (l .mandates) (l .mandatesUsed)
+    treat-mandates row k Reject c = same (l .mandates) (l .mandatesUsed)
+    treat-mandates row k (Undo way) c = same (l .mandates) (l .mandatesUsed)
+
+    treat-collections : (row : ℕ) (k : Collection) (t : Treatment) (c : Collection)
+        → P (l .collections) (l .collectionsUsed) (putCollection (l .collections) row k) (l .collectionsUsed)
+        → Collections (postTreated (keepCollection (dated l date) row k) t date c)
+    treat-collections row k Settle c g = g
+    treat-collections row k Reject c g = g
+    treat-collections row k (Undo way) c g = g
+
+    effect-mandates : (a : Action) → Mandates (effect l date a)
+    unfolding effect
+    effect-mandates (AddCreditor a b) = same (l .mandates) (l .mandatesUsed)
+    effect-mandates (AddMandate m) = next (l .mandates) (l .mandatesUsed) (mandateCells m) refl
+    effect-mandates (ChangeMandate n c) =
+        at-row Mandates (lookup (l .mandates) (l .mandatesUsed) n) _ (same (l .mandates) (l .mandatesUsed))
+        (λ row f. mandate-anew n row (changed c (mandateAt (l .mandates) row)) f (changed-number c (mandateAt (l .mandates) row)))
+    effect-mandates (Collect p) =
+        at-row Mandates (lookup (l .mandates) (l .mandatesUsed) (p .mandate)) _ (same (l .mandates) (l .mandatesUsed))
+        (λ row f. mandate-anew (p .mandate) row (presentedOn p (mandateAt (l .mandates) row)) f (presented-number p (mandateAt (l .mandates) row)))
+    effect-mandates (Treat n t) =
+        at-row Mandates (lookup (l .collections) (l .collectionsUsed) n) _ (same (l .mandates) (l .mandatesUsed))
+        (λ row f. treat-mandates row (treated t date (collectionAt (l .collections) row)) t (collectionAt (l .collections) row))
+
+    effect-collections : (a : Action) → Collections (effect l date a)
+    unfolding effect
+    effect-collections (AddCreditor a b) = same (l .collections) (l .collectionsUsed)
+    effect-collections (AddMandate m) = same (l .collections) (l .collectionsUsed)
+    effect-collections (ChangeMandate n c) =
+        at-row Collections (lookup (l .mandates) (l .mandatesUsed) n) _ (same (l .collections) (l .collectionsUsed))
+        (λ row f. same (l .collections) (l .collectionsUsed))
+    effect-collections (Collect p) =
+        at-row Collections (lookup (l .mandates) (l .mandatesUsed) (p .mandate)) _ (same (l .collections) (l .collectionsUsed))
+        (λ row f.
+        next (l .collections) (l .collectionsUsed) (collectionCells (newCollection (l .creditors) p (mandateAt (l .mandates) row))) refl)
+    effect-collections (Treat n t) =
+        at-row Collections (lookup (l .collections) (l .collectionsUsed) n) _ (same (l .collections) (l .collectionsUsed))
+        (λ row f.
+        let k = collectionAt (l .collections) row in
+        treat-collections row (treated t date k) t k (collection-anew n row (treated t date k) f (treated-number t date k)))
+
+  -- after an event
+
+  module _ (l : Ledger) (e : Event) where
+    mandates-after : P (l .mandates) (l .mandatesUsed) (after l e .mandates) (after l e .mandatesUsed)
+    mandates-after =
+        after-cases (Mandates l (e .date)) l e (same (l .mandates) (l .mandatesUsed))
+        (effect-mandates l (e .date) (actionOf e))
+
+    collections-after : P (l .collections) (l .collectionsUsed) (after l e .collections) (after l e .collectionsUsed)
+    collections-after =
+        after-cases (Collections l (e .date)) l e (same (l .collections) (l .collectionsUsed))
+        (effect-collections l (e .date) (actionOf e))
 
 -- ---- each used row stays where it is, with its number
 
