@@ -250,6 +250,7 @@ fn row_at(i: usize) -> Row
         7 => REJECT_ROW,
         8 => RETURN_ROW,
         9 => REFUND_ROW,
+        // 10, the last row
         _ => REVERSAL_ROW,
     }
 }
