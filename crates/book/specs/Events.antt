@@ -1,9 +1,10 @@
--- The call for the ten events: what it asks of the code for each kind, and what it promises. Assumes nothing.
+-- The calls for an event and for a query: what they ask of the code for each kind, and what they promise. Assumes nothing.
 use mathlib.Core.Path.{_≡_}
-use mathlib.Core.Bool.{true, cond}
+use mathlib.Core.Bool.{true, cond, _&&_}
 use mathlib.Core.List.{List}
 use Prim.Native.Nat.{ℕ, _≤_}
 use lib.Dec.{eqb}
+use lib.IntN.{pos}
 use Rattle.events.specs.declared.Event.{Event}
 use Rattle.events.specs.declared.limits.Checked.the-variants.{Within}
 use Rattle.events.specs.Limits.{checked}
@@ -12,7 +13,8 @@ use Rattle.tables.specs.Fitness.{fit}
 use Rattle.tables.specs.Lookup.{MayStart}
 use Rattle.model.specs.Actions.{Change}
 use Rattle.model.specs.Actions.Change.{NewBank, NewCreditor}
-use Rattle.model.specs.Step.{answer, after}
+use Rattle.model.specs.declared.QueryAnswer.{QueryAnswer}
+use Rattle.model.specs.Step.{answerNumber, answer, eventNumber, after, inQuery, figureOf, query, queryNumber, answered}
 use Rattle.book.specs.declared.Outcome.{Outcome}
 use Rattle.book.specs.Collect.{CollectDates}
 
@@ -41,4 +43,11 @@ pub record Admitted (l : Ledger) (e : Event) : Type 0 where
 -- the event given to the ledger l: the answer, and the ledger l' after it
 pub record Taken (l : Ledger) (e : Event) (r : Outcome) (l' : Ledger) : Type 0 where
   pub answer-is : r .answer ≡ answer l e
+  pub number-is : answerNumber (r .answer) ≡ eventNumber l e
   pub after-is : l' ≡ after l e
+
+-- the query given to the ledger l: the answer, its number and the figure
+pub record Queried (l : Ledger) (kind number : ℕ) (r : QueryAnswer) : Type 0 where
+  pub answer-is : r ≡ query l kind number
+  pub number-is : queryNumber r ≡ cond (fit l) (cond (inQuery kind number) 0 5) 2
+  pub figure-is : answered r ≡ cond (fit l && inQuery kind number) (figureOf l kind number) (pos 0)

@@ -16,7 +16,7 @@ use Rattle.tables.specs.Ledger.{Ledger}
 use Rattle.model.specs.declared.Answer.the-variants.{Refused}
 use Rattle.model.specs.Step.{answerNumber}
 use Rattle.index.specs.Index.{Indexed}
-use Rattle.model.proofs.Laws.Invariant.{Safe}
+use Rattle.model.specs.Bounds.{Safe}
 use Rattle.report.specs.Layout.{answerLength}
 use Rattle.report.specs.Run.{Run, fitAnswer, fitNumber, runAt, kept, answerTo, afterLine, ended, toldEnded, takeText, toldText}
 use Rattle.book.specs.declared.Outcome.{Outcome}

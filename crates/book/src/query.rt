@@ -3,7 +3,8 @@ ghost use mathlib.Core.Path.{_≡_};
 ghost use mathlib.Core.List.{List};
 ghost use Prim.Native.Nat.{ℕ};
 ghost use Rattle.tables.specs.Ledger.{ledger};
-ghost use Rattle.model.specs.Step.{inQuery, figureOf, query};
+ghost use Rattle.model.specs.Step.{inQuery, figureOf};
+ghost use Rattle.book.specs.Events.{Queried};
 use common::BANKS;
 use common::CREDITORS;
 use common::DEBTORS;
@@ -64,7 +65,7 @@ pub fn position(
     debtor_positions: &[i64],
     bank_positions: &[i64],
 ) -> QueryAnswer
-    ensures { λ r. ⌜ r ≡ query (ledger header (now (mandates .entry)) (now (collections .entry)) (now (creditors .entry)) (now («creditor_positions» .entry)) (now («debtor_positions» .entry)) (now («bank_positions» .entry))) kind number ⌝ }
+    ensures { λ r. ⌜ Queried (ledger header (now (mandates .entry)) (now (collections .entry)) (now (creditors .entry)) (now («creditor_positions» .entry)) (now («debtor_positions» .entry)) (now («bank_positions» .entry))) kind number r ⌝ }
 {
     if !is_fit(
         header,

@@ -2,7 +2,7 @@
 ghost use mathlib.Core.Path.{_≡_};
 ghost use Rattle.tables.specs.Ledger.{ledger};
 ghost use Rattle.model.specs.Step.{run};
-ghost use Rattle.model.proofs.Laws.Invariant.{Safe};
+ghost use Rattle.model.specs.Bounds.{Safe};
 ghost use Rattle.book.specs.Replay.{eventsIn, Replayed};
 use crate::cells::EVENT_CELLS;
 use crate::cells::event_at;

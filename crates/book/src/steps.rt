@@ -110,6 +110,7 @@ fn record_event(
             mandates,
             creditors,
         ),
+        // 5; no other kind comes here
         _ => collect(
             header,
             e.date,

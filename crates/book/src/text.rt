@@ -16,11 +16,11 @@ ghost use Rattle.book.specs.Events.{Taken};
 ghost use Rattle.book.specs.Text.{Sound, Known, LineTaken, AnswerRoom, LineTold, TextRoom, LinesTold, unfitPiece, PieceTaken};
 use crate::Outcome;
 use crate::cells::EVENT_CELLS;
-use crate::cells::event_at;
 use crate::event::take_event;
 use crate::steps::act;
 use events::Event;
 use events::limits::Checked;
+use events::line::event_in;
 use events::line::read_cells;
 use index::INDEX;
 use index::first_row;
@@ -156,7 +156,7 @@ fn take_line(
         Checked::Within => take_sound(
             known,
             header,
-            event_at(&cells, 0),
+            event_in(&cells),
             mandate_index,
             collection_index,
             mandates,

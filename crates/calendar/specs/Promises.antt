@@ -55,9 +55,15 @@ pub record Nth (n d r : ℕ) : Type 0 where
 abbrev pub NthBusinessDay : Type 0
 NthBusinessDay = (n d : ℕ) → openAfter (suc n) d < calendarDays → Nth (suc n) d (openAfter (suc n) d)
 
--- the last business day before a day
+-- the last business day before a day is found, at most five days before it; from the sixth day on, so from every date of the range
+pub record LastFound (n : ℕ) : Type 0 where
+  pub day : ℕ
+  pub is : lastOpenBefore n ≡ Day day
+  pub last : Last n day
+  pub near : n ≤ day + 5
+
 abbrev pub LastBusinessDay : Type 0
-LastBusinessDay = (n r : ℕ) → lastOpenBefore n ≡ Day r → Last n r
+LastBusinessDay = (n : ℕ) → 5 ≤ n → n < calendarDays → LastFound n
 
 -- ---- nothing is lost at the ends of the range of events and rows
 

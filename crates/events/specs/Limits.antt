@@ -161,3 +161,10 @@ checked e = judged (checks e) Within
 abbrev pub checkedNumber : Checked → ℕ
 checkedNumber Within = 0
 checkedNumber (Refused r) = numberOf r
+
+-- the checking order in the paper's numbers: that of the first test that fails, or 0
+abbrev pub limitNumbers : Event → List (Check ℕ)
+limitNumbers e = check (within kinds (e .kind)) 3 ∷ check (inRange (e .date)) 4 ∷ check (fieldsFit e) 5 ∷ []
+
+unfoldable pub limitNumber : Event → ℕ
+limitNumber e = judged (limitNumbers e) 0

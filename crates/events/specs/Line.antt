@@ -17,7 +17,7 @@ use Rattle.events.specs.declared.line.LineAnswer.{LineAnswer}
 use Rattle.events.specs.declared.line.LineAnswer.the-variants as lines
 use Rattle.events.specs.declared.line.WriteAnswer.{WriteAnswer}
 use Rattle.events.specs.declared.line.WriteAnswer.the-variants as writes
-use Rattle.events.specs.Limits.{checks, checked}
+use Rattle.events.specs.Limits.{checks, checked, limitNumbers, limitNumber}
 
 -- ---- the columns
 
@@ -138,9 +138,13 @@ abbrev pub taken : Fields → LineAnswer
 taken Unreadable = lines.Refused BadLine
 taken (Values vs) = answerOf (eventOf vs) (checked (eventOf vs))
 
+-- 74 columns and byte 10
+abbrev pub isLine : List ℕ → Bool
+isLine l = eqb (length l) lineLength && eqb (getD l columns 0) lineEnd
+
 unfoldable pub readLine : List ℕ → LineAnswer
 readLine l =
-    cond (eqb (length l) lineLength && eqb (getD l columns 0) lineEnd)
+    cond (isLine l)
     (taken (readFields widths 0 l))
     (lines.Refused BadLine)
 
@@ -155,14 +159,6 @@ checkedLine (lines.Refused r) = Refused r
 abbrev pub cellsBy : LineAnswer → List ℕ → List ℕ
 cellsBy (lines.Taken e) cells = fieldsOf e
 cellsBy (lines.Refused r) cells = cells
-
--- 2, then 1, 3, 4 and 5
-unfoldable pub cellsAnswer : List ℕ → List ℕ → Checked
-cellsAnswer l cells = cond (eqb (length cells) (length widths)) (checkedLine (readLine l)) (Refused UnfitMemory)
-
--- the cells after the call
-unfoldable pub cellsAfter : List ℕ → List ℕ → List ℕ
-cellsAfter l cells = cond (eqb (length cells) (length widths)) (cellsBy (readLine l) cells) cells
 
 -- ---- writing to a lent buffer
 
@@ -195,3 +191,20 @@ lineNumber (lines.Refused r) = numberOf r
 abbrev pub writeNumber : WriteAnswer → ℕ
 writeNumber writes.Written = 0
 writeNumber (writes.Refused r) = numberOf r
+
+-- ---- the same in the paper's numbers
+
+-- 1 where a line or a field is not as it should be, then 3, 4 and 5
+abbrev pub fieldsNumber : Fields → ℕ
+fieldsNumber Unreadable = 1
+fieldsNumber (Values vs) = limitNumber (eventOf vs)
+
+unfoldable pub readerNumber : List ℕ → ℕ
+readerNumber l =
+    cond (isLine l)
+    (fieldsNumber (readFields widths 0 l))
+    1
+
+-- 2 where the buffer is too short, then 3, 4 and 5
+unfoldable pub writerNumber : Event → List ℕ → ℕ
+writerNumber e out = judged (check (leb lineLength (length out)) 2 ∷ limitNumbers e) 0

@@ -3,7 +3,7 @@ ghost use mathlib.Core.Path.{_≡_};
 ghost use mathlib.Core.List.{[], _∷_};
 ghost use Prim.Native.Nat.{_<_};
 ghost use lib.ListN.{length, getD};
-ghost use Rattle.events.specs.Limits.{within, table, noRow, rowIn, rowOf, secondFits, rowFits, fieldsFit, checked};
+ghost use Rattle.events.specs.Limits.{within, table, noRow, rowIn, rowOf, secondFits, rowFits, fieldsFit, checked, checkedNumber, limitNumber};
 use crate::Event;
 use common::AMOUNT_LIMIT;
 use common::BANKS;
@@ -250,6 +250,7 @@ fn row_at(i: usize) -> Row
         7 => REJECT_ROW,
         8 => RETURN_ROW,
         9 => REFUND_ROW,
+        // 10, the last row
         _ => REVERSAL_ROW,
     }
 }
@@ -322,7 +323,8 @@ fn fields_fit(e: Event) -> bool
 
 // Refusals 3, 4 and 5, in this order.
 pub fn check(e: Event) -> Checked
-    ensures { λ r. ⌜ r ≡ checked e ⌝ }
+    ensures answer { λ r. ⌜ r ≡ checked e ⌝ }
+    ensures number { λ r. ⌜ checkedNumber r ≡ limitNumber e ⌝ }
 {
     if !within(KINDS, e.kind) {
         return Checked::Refused(Refusal::UnknownKind);

@@ -6,7 +6,8 @@ ghost use Prim.Native.Nat.{ℕ, _+_, _*_, _^_, _≤_, _<_};
 ghost use lib.Dec.{ltb};
 ghost use lib.ListN.{length, take, drop};
 ghost use Rattle.events.specs.declared.line.FieldAnswer.the-variants.{Value, NoValue};
-ghost use Rattle.events.specs.Line.{lineLength, widths, isDigit, readField, readFields, taken, readLine, checkedLine, cellsBy, cellsAnswer, cellsAfter, lastDigit, fieldBytes, pasted, lineOf, writeAnswer, bytesAfter};
+ghost use Rattle.events.specs.Limits.{checkedNumber};
+ghost use Rattle.events.specs.Line.{eventOf, lineLength, widths, isDigit, readField, readFields, taken, readLine, checkedLine, cellsBy, lastDigit, fieldBytes, pasted, lineOf, writeAnswer, bytesAfter, lineNumber, writeNumber, readerNumber, writerNumber};
 ghost use Rattle.events.specs.Words.{bytesOf, none, numberIn, areDigits, digitsFrom, ledBy, onward};
 use crate::Event;
 use crate::limits::Checked;
@@ -329,15 +330,12 @@ fn fields(line: &[u8], cells: &mut [u64]) -> Checked
     later_fields(line, cells, kind, date, mandate, a)
 }
 
-// Reads the event of a line into nine lent cells, its fields in their order, or changes nothing and gives refusal 1, 3, 4 or 5;
-// 2 where the cells are not nine.
-pub fn read_cells(line: &[u8], cells: &mut [u64]) -> Checked
-    ensures answer { λ r. ⌜ r ≡ cellsAnswer (now (line .entry)) (now (cells .entry)) ⌝ }
-    ensures cells { λ _. ⌜ now (cells .exit) ≡ cellsAfter (now (line .entry)) (now (cells .entry)) ⌝ }
+// Reads the event of a line into nine lent cells, its fields in their order, or changes nothing and gives refusal 1, 3, 4 or 5.
+pub fn read_cells(line: &[u8], cells: &mut [u64; FIELDS]) -> Checked
+    ensures answer { λ r. ⌜ r ≡ checkedLine (readLine (now (line .entry))) ⌝ }
+    ensures cells { λ _. ⌜ now (cells .exit) ≡ cellsBy (readLine (now (line .entry))) (now (cells .entry)) ⌝ }
+    ensures number { λ r. ⌜ checkedNumber r ≡ readerNumber (now (line .entry)) ⌝ }
 {
-    if cells.len() != FIELDS {
-        return Checked::Refused(Refusal::UnfitMemory);
-    }
     if line.len() != LINE {
         return Checked::Refused(Refusal::BadLine);
     }
@@ -347,24 +345,32 @@ pub fn read_cells(line: &[u8], cells: &mut [u64]) -> Checked
     fields(line, cells)
 }
 
+// The event whose fields stand in nine cells.
+pub fn event_in(cells: &[u64; FIELDS]) -> Event
+    ensures { λ r. ⌜ r ≡ eventOf (now (cells .entry)) ⌝ }
+{
+    Event {
+        kind: cells[0],
+        date: cells[1],
+        mandate: cells[2],
+        a: cells[3],
+        b: cells[4],
+        c: cells[5],
+        amount: cells[6],
+        second: cells[7],
+        code: cells[8],
+    }
+}
+
 // The event of a line, or refusal 1, 3, 4 or 5.
 pub fn read(line: &[u8]) -> LineAnswer
-    ensures { λ r. ⌜ r ≡ readLine (now (line .entry)) ⌝ }
+    ensures answer { λ r. ⌜ r ≡ readLine (now (line .entry)) ⌝ }
+    ensures number { λ r. ⌜ lineNumber r ≡ readerNumber (now (line .entry)) ⌝ }
 {
     let mut cells = [0; FIELDS];
     match read_cells(line, &mut cells) {
         Checked::Refused(r) => LineAnswer::Refused(r),
-        Checked::Within => LineAnswer::Taken(Event {
-            kind: cells[0],
-            date: cells[1],
-            mandate: cells[2],
-            a: cells[3],
-            b: cells[4],
-            c: cells[5],
-            amount: cells[6],
-            second: cells[7],
-            code: cells[8],
-        }),
+        Checked::Within => LineAnswer::Taken(event_in(&cells)),
     }
 }
 
@@ -415,6 +421,7 @@ fn put_line(e: Event, out: &mut [u8])
 pub fn write(e: Event, out: &mut [u8]) -> WriteAnswer
     ensures answer { λ r. ⌜ r ≡ writeAnswer e (now (out .entry)) ⌝ }
     ensures bytes { λ _. ⌜ now (out .exit) ≡ bytesAfter e (now (out .entry)) ⌝ }
+    ensures number { λ r. ⌜ writeNumber r ≡ writerNumber e (now (out .entry)) ⌝ }
 {
     if out.len() < LINE {
         return WriteAnswer::Refused(Refusal::UnfitMemory);

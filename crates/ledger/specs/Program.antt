@@ -10,7 +10,7 @@ use Rattle.tables.specs.Rows.{rows}
 use Rattle.tables.specs.Ledger.{Ledger}
 use Rattle.tables.specs.Fitness.{sizesFit}
 use Rattle.tables.specs.Opening.{opened}
-use Rattle.model.specs.Journal.{journal}
+use Rattle.model.specs.Journal.{Journal, journal}
 use Rattle.report.specs.Run.{endTold, toldPositions, toldJournal}
 use Rattle.report.specs.Lines.{answeredLines, answersOf, historyOf}
 
@@ -37,7 +37,11 @@ pub record Finished (l : Ledger) (lines begun : ℕ) (out : List ℕ) (bytes : �
   pub bytes-are : bytes ≡ length (toldPositions l)
   pub out-is : out' ≡ pasted 0 (toldPositions l) (pasted 0 (endTold lines begun) out)
 
--- there is an input, and the first bytes of the buffer show the figures of the journal, by its lines and the answers to them
+-- the journal of a text, by its lines and the answers to them
+abbrev pub journalOf : Ledger → List (List ℕ) → Journal
+journalOf l lines = journal (historyOf lines (answersOf l lines))
+
+-- there is an input, and the first bytes of the buffer show its journal's figures
 pub record Shown (l : Ledger) (bytes : ℕ) (out : List ℕ) : Type 0 where
   pub input : List ℕ
-  pub listing : take bytes out ≡ toldJournal (journal (historyOf (answeredLines 0 input) (answersOf l (answeredLines 0 input))))
+  pub listing : take bytes out ≡ toldJournal (journalOf l (answeredLines 0 input))

@@ -3,6 +3,8 @@ pub mod Actions  -- what an event of each kind asks for
 pub mod Views  -- what is known under a number, after a row is written
 pub mod Sound  -- an event within its limits, and what its acceptance says
 pub mod Effects  -- what an effect is where the row of its number is known
+pub mod Limits  -- the limits of the rules are dates
+pub mod Wordings  -- the journal's words and the step's say the same
 pub mod Agree  -- when a ledger and a journal agree
 pub mod KeptMandates  -- events 1 to 5 keep the agreement
 pub mod KeptTreatments  -- events 6 to 10 keep the agreement
@@ -15,3 +17,4 @@ pub mod Sums  -- the sum of what the ledger answers
 pub mod Theorem  -- demand 3, proved
 pub mod Batch  -- a list of events keeps the tables safe
 pub mod Grown  -- every event leaves the used rows where they are, with their numbers
+pub mod Answers  -- the answers in the paper's numbers

@@ -78,4 +78,4 @@ actionOf e =
     (cond (eqb (e .kind) 7) (Treat (e .a) Reject)
     (cond (eqb (e .kind) 8) (Treat (e .a) (Undo ByReturn))
     (cond (eqb (e .kind) 9) (Treat (e .a) (Undo (ByRefund (e .b) (e .code))))
-    (Treat (e .a) (Undo ByReversal))))))))))
+    (Treat (e .a) (Undo ByReversal))))))))))  -- 10; any other kind is refused by 3 before this is asked

@@ -15,6 +15,7 @@ use Rattle.tables.specs.declared.Found.{Found}
 use Rattle.tables.specs.declared.Found.the-variants.{At, Nothing}
 use Rattle.tables.specs.declared.Mandate.{Mandate}
 use Rattle.tables.specs.declared.Collection.{Collection}
+use Rattle.tables.specs.declared.Standing.{Standing}
 use Rattle.tables.specs.declared.Standing.the-variants.{Closed, Cancelled}
 use Rattle.tables.specs.declared.State.{State}
 use Rattle.tables.specs.declared.State.the-variants.{Presented, Rejected, Settled, Undone}
@@ -132,41 +133,25 @@ addCollection l k = withCollections l (putCollection (l .collections) (l .collec
 
 -- ---- events 3 and 4: a mandate changes
 
+-- a mandate with another creditor, debtor bank, standing, mark that FRST is due, or last presented
+abbrev pub remade : Mandate → ℕ → ℕ → Standing → Bool → ℕ → Mandate
+remade m creditor bank standing first presented = record {
+  number = m .number;
+  creditor = creditor;
+  debtor = m .debtor;
+  bank = bank;
+  signed = m .signed;
+  code = m .code;
+  standing = standing;
+  first = first;
+  presented = presented;
+}
+
 -- a new debtor bank makes FRST due if the mandate is recurrent
 unfoldable pub changed : Change → Mandate → Mandate
-changed (NewBank b) m = record {
-  number = m .number;
-  creditor = m .creditor;
-  debtor = m .debtor;
-  bank = b;
-  signed = m .signed;
-  code = m .code;
-  standing = m .standing;
-  first = isRecurrent (m .code) || m .first;
-  presented = m .presented;
-}
-changed (NewCreditor a) m = record {
-  number = m .number;
-  creditor = a;
-  debtor = m .debtor;
-  bank = m .bank;
-  signed = m .signed;
-  code = m .code;
-  standing = m .standing;
-  first = m .first;
-  presented = m .presented;
-}
-changed Cancel m = record {
-  number = m .number;
-  creditor = m .creditor;
-  debtor = m .debtor;
-  bank = m .bank;
-  signed = m .signed;
-  code = m .code;
-  standing = Cancelled;
-  first = m .first;
-  presented = m .presented;
-}
+changed (NewBank b) m = remade m (m .creditor) b (m .standing) (isRecurrent (m .code) || m .first) (m .presented)
+changed (NewCreditor a) m = remade m a (m .bank) (m .standing) (m .first) (m .presented)
+changed Cancel m = remade m (m .creditor) (m .bank) Cancelled (m .first) (m .presented)
 
 -- ---- event 5: a collection is presented
 
@@ -176,17 +161,9 @@ closes code = leb 2 code
 
 -- FRST clears "due"; the kept due is the one last presented
 unfoldable pub presentedOn : Presentation → Mandate → Mandate
-presentedOn p m = record {
-  number = m .number;
-  creditor = m .creditor;
-  debtor = m .debtor;
-  bank = m .bank;
-  signed = m .signed;
-  code = m .code;
-  standing = cond (closes (p .code)) Closed (m .standing);
-  first = m .first && not (eqb (p .code) 0);
-  presented = keptDue (p .requested);
-}
+presentedOn p m =
+    remade m (m .creditor) (m .bank)
+    (cond (closes (p .code)) Closed (m .standing)) (m .first && not (eqb (p .code) 0)) (keptDue (p .requested))
 
 -- the parties and both banks as they are now
 unfoldable pub newCollection : List ℕ → Presentation → Mandate → Collection

@@ -1,23 +1,22 @@
--- Document 01, "The journal". It is fed each event and whether it was accepted, and nothing from the tables.
--- Assumes nothing.
-use mathlib.Core.Bool.{cond}
+-- Document 01, "The journal". It is fed each event and whether it was accepted, and nothing from the tables. Each bullet is said
+-- by the fields of the event and takes no rule from the ledger's step: neither how an action is read off the fields, nor what an
+-- effect does, nor what is posted. Shared are the calendar, compensation as a function of numbers, and the standings of a mandate.
+-- proofs/Laws/Wordings has the law that an event within its limits is noted as the step would have it. Assumes nothing.
+use mathlib.Core.Bool.{Bool, cond, _||_}
 use mathlib.Core.List.{List, [], _∷_}
-use Prim.Native.Nat.{ℕ}
+use Prim.Native.Nat.{ℕ, _+_, _-_}
 use lib.Dec.{eqb}
-use lib.IntN.{ℤ, pos, _+ℤ_}
-use Rattle.positions.specs.Postings.{settlement}
-use Rattle.positions.specs.declared.Postings.{Postings}
-use Rattle.tables.specs.declared.Mandate.{Mandate}
+use lib.IntN.{ℤ, pos, negℤ, _+ℤ_}
+use Rattle.calendar.specs.DayNumber.{dayNumber}
+use Rattle.calendar.specs.Target.{firstBusinessDay}
+use Rattle.calendar.specs.declared.DateAnswer.{DateAnswer}
+use Rattle.calendar.specs.declared.DateAnswer.the-variants.{Date, NoDate}
+use Rattle.events.specs.declared.Event.{Event}
+use Rattle.positions.specs.Compensation.{compensation as compensationFor}
 use Rattle.tables.specs.declared.Standing.{Standing}
 use Rattle.tables.specs.declared.Standing.the-variants.{Live, Closed, Cancelled}
-use Rattle.model.specs.Actions.{Action, Change, Presentation, Treatment, actionOf}
-use Rattle.model.specs.Actions.Action.{AddCreditor, AddMandate, ChangeMandate, Collect, Treat}
-use Rattle.model.specs.Actions.Change.{NewBank, NewCreditor, Cancel}
-use Rattle.model.specs.Actions.Treatment.{Settle, Reject, Undo}
-use Rattle.model.specs.Deadlines.{keptDue}
 use Rattle.model.specs.Lookups.{Known}
 use Rattle.model.specs.Lookups.Known.{unknown, known}
-use Rattle.model.specs.Effects.{closes, undone}
 use Rattle.model.specs.Step.{Entry}
 
 -- ---- what is noted
@@ -105,16 +104,17 @@ withCollection j number k = record {
   compensation = j .compensation;
 }
 
--- postings add to the figures of the parties and banks noted with the collection
-abbrev pub withFigures : Journal → NotedCollection → Postings → Journal
-withFigures j k p = record {
+-- adds to the figures of the parties and banks noted with the collection: the debtor's, the creditor's, the debtor bank's, the
+-- creditor bank's; and to total compensation
+abbrev pub adding : Journal → NotedCollection → ℤ → ℤ → ℤ → ℤ → ℤ → Journal
+adding j k debtor creditor dbank cbank paid = record {
   banks = j .banks;
   mandates = j .mandates;
   collections = j .collections;
-  creditorFigure = plus (j .creditorFigure) (k .creditor) (p .creditor);
-  debtorFigure = plus (j .debtorFigure) (k .debtor) (p .debtor);
-  bankFigure = plus (plus (j .bankFigure) (k .dbank) (p .dbank)) (k .cbank) (p .cbank);
-  compensation = j .compensation +ℤ p .compensation;
+  creditorFigure = plus (j .creditorFigure) (k .creditor) creditor;
+  debtorFigure = plus (j .debtorFigure) (k .debtor) debtor;
+  bankFigure = plus (plus (j .bankFigure) (k .dbank) dbank) (k .cbank) cbank;
+  compensation = j .compensation +ℤ paid;
 }
 
 -- an event that needs what the journal lacks leaves it as it was
@@ -122,74 +122,80 @@ abbrev pub needing : {A : Type 0} → Known A → Journal → (A → Journal) �
 needing unknown j f = j
 needing (known a) j f = f a
 
--- ---- one clause for each bullet
+-- ---- mandates: bullets 2, 3, 4
 
--- 2 notes the mandate, live
-unfoldable pub newNoted : Mandate → NotedMandate
-newNoted m = record {
-  creditor = m .creditor;
+-- a noted mandate with another creditor, debtor bank, standing or last presented
+abbrev pub remade : NotedMandate → ℕ → ℕ → Standing → ℕ → NotedMandate
+remade m creditor bank standing presented = record {
+  creditor = creditor;
   debtor = m .debtor;
-  bank = m .bank;
+  bank = bank;
   signed = m .signed;
   code = m .code;
+  standing = standing;
+  presented = presented;
+}
+
+-- 2: live, with its creditor, debtor, debtor bank, signing date and code
+unfoldable pub newNoted : Event → NotedMandate
+newNoted e = record {
+  creditor = e .a;
+  debtor = e .b;
+  bank = e .c;
+  signed = e .second;
+  code = e .code;
   standing = Live;
   presented = 0;
 }
 
--- 3 gives it the new debtor bank or creditor, 4 makes it cancelled
-unfoldable pub notedChange : Change → NotedMandate → NotedMandate
-notedChange (NewBank b) m = record {
-  creditor = m .creditor;
-  debtor = m .debtor;
-  bank = b;
-  signed = m .signed;
-  code = m .code;
-  standing = m .standing;
-  presented = m .presented;
-}
-notedChange (NewCreditor a) m = record {
-  creditor = a;
-  debtor = m .debtor;
-  bank = m .bank;
-  signed = m .signed;
-  code = m .code;
-  standing = m .standing;
-  presented = m .presented;
-}
-notedChange Cancel m = record {
-  creditor = m .creditor;
-  debtor = m .debtor;
-  bank = m .bank;
-  signed = m .signed;
-  code = m .code;
-  standing = Cancelled;
-  presented = m .presented;
-}
+-- 3: code 0 gives the new debtor bank, code 1 the new creditor
+unfoldable pub amended : Event → NotedMandate → NotedMandate
+amended e m =
+    cond (eqb (e .code) 0)
+    (remade m (m .creditor) (e .c) (m .standing) (m .presented))
+    (remade m (e .a) (m .bank) (m .standing) (m .presented))
 
--- 5: the kept due becomes the mandate's last presented; FNAL and OOFF close it
-unfoldable pub notedPresented : Presentation → NotedMandate → NotedMandate
-notedPresented p m = record {
-  creditor = m .creditor;
-  debtor = m .debtor;
-  bank = m .bank;
-  signed = m .signed;
-  code = m .code;
-  standing = cond (closes (p .code)) Closed (m .standing);
-  presented = keptDue (p .requested);
-}
+unfoldable pub cancelled : NotedMandate → NotedMandate
+cancelled m = remade m (m .creditor) (m .bank) Cancelled (m .presented)
 
--- 5 notes the collection, with the parties and both banks as the journal then has them
-unfoldable pub notedCollection : Journal → Presentation → NotedMandate → NotedCollection
-notedCollection j p m = record {
-  mandate = p .mandate;
-  code = p .code;
-  amount = p .amount;
+-- ---- collects: bullet 5
+
+-- the date of the first business day on or after the requested one
+abbrev pub dueOn : DateAnswer → ℕ
+dueOn (Date x) = x
+dueOn NoDate = 0
+
+-- code 2 is FNAL, 3 OOFF
+abbrev pub isLast : ℕ → Bool
+isLast code = eqb code 2 || eqb code 3
+
+-- the kept due becomes the mandate's last presented; FNAL and OOFF close it
+unfoldable pub collectedOn : Event → NotedMandate → NotedMandate
+collectedOn e m =
+    remade m (m .creditor) (m .bank) (cond (isLast (e .code)) Closed (m .standing)) (dueOn (firstBusinessDay (e .second)))
+
+-- the collection, with the parties and both banks as the journal then has them
+unfoldable pub notedCollection : Journal → Event → NotedMandate → NotedCollection
+notedCollection j e m = record {
+  mandate = e .mandate;
+  code = e .code;
+  amount = e .amount;
   creditor = m .creditor;
   debtor = m .debtor;
   cbank = j .banks (m .creditor);
   dbank = m .bank;
   settled = 0;
 }
+
+-- it needs the mandate, and the bank of the mandate's creditor
+unfoldable pub noteCollect : Journal → Event → Journal
+noteCollect j e =
+    needing (j .mandates (e .mandate)) j
+    (λ m.
+    cond (eqb (j .banks (m .creditor)) 0) j
+    (withCollection (withMandate j (e .mandate) (collectedOn e m)) (e .a) (notedCollection j e m)))
+
+-- ---- settles and undoings: bullets 6, 8, 9, 10
 
 -- 6 notes the event date as S
 unfoldable pub notedSettled : NotedCollection → ℕ → NotedCollection
@@ -204,28 +210,52 @@ notedSettled k date = record {
   settled = date;
 }
 
--- 6 posts the settle, 7 changes nothing, 8 to 10 post the undoing and need S
-abbrev pub notedTreatment : Journal → ℕ → ℕ → NotedCollection → Treatment → Journal
-notedTreatment j date number k Settle = withFigures (withCollection j number (notedSettled k date)) k (settlement (k .amount))
-notedTreatment j date number k Reject = j
-notedTreatment j date number k (Undo way) =
-    cond (eqb (k .settled) 0) j (withFigures j k (undone way (k .amount) (k .settled) date))
+-- A goes from the debtor to the creditor, and from bank to bank
+unfoldable pub noteSettle : Journal → Event → NotedCollection → Journal
+noteSettle j e k =
+    adding (withCollection j (e .a) (notedSettled k (e .date))) k
+    (negℤ (pos (k .amount))) (pos (k .amount)) (negℤ (pos (k .amount))) (pos (k .amount)) (pos 0)
 
-unfoldable pub note : Journal → ℕ → Action → Journal
-note j date (AddCreditor a b) = withBank j a b
-note j date (AddMandate m) = withMandate j (m .number) (newNoted m)
-note j date (ChangeMandate n c) = needing (j .mandates n) j (λ m. withMandate j n (notedChange c m))
-note j date (Collect p) =
-    needing (j .mandates (p .mandate)) j
-    (λ m.
-    cond (eqb (j .banks (m .creditor)) 0) j
-    (withCollection (withMandate j (p .mandate) (notedPresented p m)) (p .collection) (notedCollection j p m)))
-note j date (Treat n t) = needing (j .collections n) j (λ k. notedTreatment j date n k t)
+-- 8 and 10: A goes back
+unfoldable pub noteBack : Journal → NotedCollection → Journal
+noteBack j k =
+    adding j k (pos (k .amount)) (negℤ (pos (k .amount))) (pos (k .amount)) (negℤ (pos (k .amount))) (pos 0)
+
+-- 9: A goes back, and K from the creditor, bank to bank, to total compensation
+unfoldable pub noteRefund : Journal → NotedCollection → ℕ → Journal
+noteRefund j k paid =
+    adding j k (pos (k .amount)) (negℤ (pos (k .amount + paid))) (pos (k .amount + paid)) (negℤ (pos (k .amount + paid))) (pos paid)
+
+-- K, by the rate in the event and the calendar days from S to the refund
+unfoldable pub paidOn : Event → NotedCollection → ℕ
+paidOn e k = compensationFor (k .amount) (e .b) (dayNumber (e .date) - dayNumber (k .settled))
+
+-- an undoing needs the collection and its S
+abbrev pub needingSettled : Journal → Event → (NotedCollection → Journal) → Journal
+needingSettled j e f = needing (j .collections (e .a)) j (λ k. cond (eqb (k .settled) 0) j (f k))
+
+-- ---- the bullets by their kinds; 7 changes nothing, and no other kind is ever accepted
+
+unfoldable pub noteKind : ℕ → Journal → Event → Journal
+noteKind kind j e =
+    cond (eqb kind 1) (withBank j (e .a) (e .b))
+    (cond (eqb kind 2) (withMandate j (e .mandate) (newNoted e))
+    (cond (eqb kind 3) (needing (j .mandates (e .mandate)) j (λ m. withMandate j (e .mandate) (amended e m)))
+    (cond (eqb kind 4) (needing (j .mandates (e .mandate)) j (λ m. withMandate j (e .mandate) (cancelled m)))
+    (cond (eqb kind 5) (noteCollect j e)
+    (cond (eqb kind 6) (needing (j .collections (e .a)) j (noteSettle j e))
+    (cond (eqb kind 8) (needingSettled j e (noteBack j))
+    (cond (eqb kind 9) (needingSettled j e (λ k. noteRefund j k (paidOn e k)))
+    (cond (eqb kind 10) (needingSettled j e (noteBack j))
+    j))))))))
+
+abbrev pub note : Journal → Event → Journal
+note j e = noteKind (e .kind) j e
 
 -- ---- the journal of a history: a refused event leaves it as it was
 
 abbrev pub feed : Journal → Entry → Journal
-feed j x = cond (x .accepted) (note j (x .event .date) (actionOf (x .event))) j
+feed j x = cond (x .accepted) (note j (x .event)) j
 
 unfoldable pub journalFrom : Journal → List Entry → Journal
 journalFrom j [] = j

@@ -3,33 +3,34 @@
 use mathlib.Core.Path.{_≡_}
 use mathlib.Core.Bool.{Bool, true, false, cond, _&&_}
 use mathlib.Core.List.{List, [], _∷_, _++_}
-use Prim.Native.Nat.{ℕ, zero, suc, _+_, _≤_}
+use Prim.Native.Nat.{ℕ, zero, suc, _+_, _*_, _≤_}
 use lib.Dec.{eqb}
 use lib.IntN.{ℤ, pos, _+ℤ_}
+use lib.ListN.{length, getD}
+use Rattle.calendar.specs.Gregorian.{inRange}
+use Rattle.calendar.specs.Target.{firstBusinessDay, lastBusinessDayBefore}
+use Rattle.calendar.specs.Periods.{daysAfter}
+use Rattle.calendar.specs.declared.DateAnswer.{DateAnswer}
+use Rattle.calendar.specs.declared.DateAnswer.the-variants.{Date}
 use Rattle.events.specs.declared.Event.{Event}
-use Rattle.tables.specs.Limits.{creditorCount, debtorCount, bankCount}
+use Rattle.events.specs.Promises.{among}
+use Rattle.tables.specs.Limits.{creditorCount, debtorCount, bankCount, stride}
 use Rattle.tables.specs.declared.Header.{Header}
 use Rattle.tables.specs.Ledger.{Ledger, ledger}
-use Rattle.tables.specs.Fitness.{sizesFit}
-use Rattle.tables.specs.Opening.{opened}
+use Rattle.tables.specs.Fitness.{sizesFit, fit}
+use Rattle.tables.specs.Opening.{opening, opened}
 use Rattle.tables.specs.declared.Standing.the-variants.{Live}
-use Rattle.model.specs.declared.QueryAnswer.{QueryAnswer}
-use Rattle.model.specs.declared.QueryAnswer.the-variants.{Figure, Refused}
+use Rattle.model.specs.declared.QueryAnswer.the-variants.{Figure}
 use Rattle.model.specs.Actions.{Action, Presentation, Treatment, Way, actionOf}
 use Rattle.model.specs.Actions.Action.{AddCreditor, AddMandate, ChangeMandate, Collect, Treat}
 use Rattle.model.specs.Actions.Treatment.{Settle, Reject, Undo}
-use Rattle.model.specs.Deadlines.{keptDue, inTime, lapsedFor}
+use Rattle.model.specs.Deadlines.{keptDue, timely, lastDay, lapseEnd}
 use Rattle.model.specs.Lookups.Known.{known}
 use Rattle.model.specs.Checks.{ruled}
-use Rattle.model.specs.Step.{inQuery, query, run, Entry, history}
+use Rattle.model.specs.Step.{answerNumber, answer, eventNumber, after, inQuery, figureOf, query, queryNumber, answered, run, Entry, history}
 use Rattle.model.specs.Journal.{NotedMandate, NotedCollection, journal, figureIn}
 
 -- ---- sums of what the ledger answers
-
--- the figure in an answer
-abbrev pub answered : QueryAnswer → ℤ
-answered (Figure z) = z
-answered (Refused r) = pos 0
 
 -- f 1 + f 2 + .. + f n
 unfoldable pub sumTo : (ℕ → ℤ) → ℕ → ℤ
@@ -69,6 +70,29 @@ unfoldable pub times : (Treatment → Bool) → ℕ → List Entry → ℕ
 times sort c [] = 0
 times sort c (x ∷ xs) = cond (x .accepted && treats sort c (actionOf (x .event))) 1 0 + times sort c xs
 
+-- ---- limits
+
+-- the limit is a date of the calendar, and the date is not after it
+pub record NotAfter (date : ℕ) (limit : DateAnswer) : Type 0 where
+  pub last : ℕ
+  pub is : limit ≡ Date last
+  pub not-after : date ≤ last
+
+-- refusal 13: the requested date is not after the 14th calendar day after the event date, and the event date not after the last
+-- business day before the kept due
+pub record InGoodTime (date requested : ℕ) : Type 0 where
+  pub soon : NotAfter requested (daysAfter (record { 0 = 14 }) date)
+  pub early : NotAfter date (lastBusinessDayBefore (keptDue requested))
+
+-- dates in range pass exactly then
+pub record PassesInGoodTime (date requested : ℕ) : Type 0 where
+  pub then : timely date requested ≡ true → InGoodTime date requested
+  pub only-then : InGoodTime date requested → timely date requested ≡ true
+
+abbrev pub Timing : Type 0
+Timing =
+    (date requested : ℕ) → inRange date ≡ true → inRange requested ≡ true → PassesInGoodTime date requested
+
 -- ---- an accepted event, by the journal just before it
 
 -- its undoing: the settle was accepted before, and the date is not after the last day by the journal's S
@@ -76,14 +100,16 @@ pub record UndoneInTime (before : List Entry) (c date : ℕ) (way : Way) : Type 
   pub settled-once : times isSettle c before ≡ 1
   pub collection : NotedCollection
   pub is-noted : journal before .collections c ≡ known collection
-  pub in-time : inTime way (collection .settled) date ≡ true
+  pub in-time : NotAfter date (lastDay way (collection .settled))
 
 -- its collect: the mandate was neither closed nor cancelled, nor lapsed for it
 pub record CollectedLive (before : List Entry) (p : Presentation) : Type 0 where
   pub mandate : NotedMandate
   pub is-noted : journal before .mandates (p .mandate) ≡ known mandate
   pub is-live : mandate .standing ≡ Live
-  pub not-lapsed : lapsedFor (keptDue (p .requested)) (mandate .presented) (mandate .signed) ≡ false
+  pub due : ℕ
+  pub is-due : firstBusinessDay (p .requested) ≡ Date due
+  pub not-lapsed : NotAfter due (lapseEnd (mandate .presented) (mandate .signed))
 
 -- ---- the claim about a list of events given to a ledger
 
@@ -125,3 +151,42 @@ abbrev pub MandatesNotAsked : Type 0
 MandatesNotAsked =
     (h : Header) (m m′ c k : List ℕ) (cp dp bp : List ℤ) (date n : ℕ) (t : Treatment)
     → ruled (ledger h m c k cp dp bp) date (Treat n t) ≡ ruled (ledger h m′ c k cp dp bp) date (Treat n t)
+
+-- ---- unused rows
+
+-- a table after a call: of its old size, and no cell past the rows then used was written
+pub record UnusedKept (cells : List ℕ) (used : ℕ) (cells' : List ℕ) (used' : ℕ) : Type 0 where
+  pub same-length : length cells' ≡ length cells
+  pub same-cells : (i : ℕ) → used' * stride ≤ i → getD cells' i 0 ≡ getD cells i 0
+
+pub record BothUnusedKept (l l' : Ledger) : Type 0 where
+  pub mandates : UnusedKept (l .mandates) (l .mandatesUsed) (l' .mandates) (l' .mandatesUsed)
+  pub collections : UnusedKept (l .collections) (l .collectionsUsed) (l' .collections) (l' .collectionsUsed)
+
+-- any event, given to any lent memory
+abbrev pub UnusedRows : Type 0
+UnusedRows = (l : Ledger) (e : Event) → BothUnusedKept l (after l e)
+
+-- ---- the answers in numbers: document 01, "What is refused, in checking order"
+
+-- any event on any lent memory gets the number of the first test that fails, or 0
+abbrev pub EventNumbers : Type 0
+EventNumbers = (l : Ledger) (e : Event) → answerNumber (answer l e) ≡ eventNumber l e
+
+-- so 0 or one of 2 to 17
+abbrev pub EventAnswers : Type 0
+EventAnswers =
+    (l : Ledger) (e : Event)
+    → among (0 ∷ 2 ∷ 3 ∷ 4 ∷ 5 ∷ 6 ∷ 7 ∷ 8 ∷ 9 ∷ 10 ∷ 11 ∷ 12 ∷ 13 ∷ 14 ∷ 15 ∷ 16 ∷ 17 ∷ []) (answerNumber (answer l e)) ≡ true
+
+-- any query gets its figure, 2 or 5
+pub record QueryAnswered (l : Ledger) (kind number : ℕ) : Type 0 where
+  pub number-is : queryNumber (query l kind number) ≡ cond (fit l) (cond (inQuery kind number) 0 5) 2
+  pub figure-is : answered (query l kind number) ≡ cond (fit l && inQuery kind number) (figureOf l kind number) (pos 0)
+
+abbrev pub QueryAnswers : Type 0
+QueryAnswers = (l : Ledger) (kind number : ℕ) → QueryAnswered l kind number
+
+-- an opening gets 0 or 2
+abbrev pub OpeningAnswers : Type 0
+OpeningAnswers = (l : Ledger) → opening l .number ≡ cond (sizesFit l) 0 2

@@ -15,7 +15,7 @@ use Rattle.positions.specs.Limits.{rowMove}
 use Rattle.positions.specs.Positions.{within}
 use Rattle.tables.specs.Ledger.{Ledger}
 use Rattle.tables.specs.Fitness.{fit}
-use Rattle.model.proofs.Laws.Spent.{spent}
+use Rattle.model.specs.Bounds.{spent}
 
 -- ---- positions
 

@@ -5,7 +5,7 @@ ghost use Prim.Native.Nat.{_≤_, _<_};
 ghost use Rattle.common.specs.Limits.{collectionRowLimit};
 ghost use Rattle.tables.specs.Ledger.{ledger};
 ghost use Rattle.tables.specs.Rows.{rows};
-ghost use Rattle.model.proofs.Laws.Spent.{sumRows, movedAt};
+ghost use Rattle.model.specs.Bounds.{sumRows, movedAt};
 ghost use Rattle.safety.specs.Safety.{tagMoved, between, allBetween, isSafe};
 use common::AMOUNT_LIMIT;
 use positions::COMPENSATION_LIMIT;

@@ -1,5 +1,5 @@
 // Lookup by number: specs/Lookup.
-ghost use mathlib.Core.Bool.{false};
+ghost use mathlib.Core.Bool.{_||_};
 ghost use mathlib.Core.Path.{_≡_};
 ghost use Prim.Native.Nat.{ℕ, _+_, _-_, _≤_, _<_};
 ghost use Rattle.common.specs.Walk.{firstFrom};
@@ -20,7 +20,7 @@ pub fn existing_of(cells: &[u64], used: usize) -> usize
 // Whether one of the four rows from a row on has the number.
 fn in_four(cells: &[u64], row: usize, number: u64) -> bool
     requires { ⌜ row + 4 ≤ rows (now cells) ⌝ }
-    ensures { λ r. ⌜ (r ≡ false → (k : ℕ) → k < 4 → numberIs (now (cells .entry)) number (row + k) ≡ false) ⌝ }
+    ensures { λ r. ⌜ r ≡ ((numberIs (now (cells .entry)) number row || numberIs (now (cells .entry)) number (row + 1)) || numberIs (now (cells .entry)) number (row + 2)) || numberIs (now (cells .entry)) number (row + 3) ⌝ }
 {
     let b = row * STRIDE;
     (cells[b] == number)
@@ -29,7 +29,8 @@ fn in_four(cells: &[u64], row: usize, number: u64) -> bool
         | (cells[b + 3 * STRIDE] == number)
 }
 
-// A row before which none has the number, from a row on: eight rows are passed over a turn, with one branch.
+// A row before which none has the number, from a row on: eight rows are passed over a turn, with one branch. Which of those rows
+// it is does not matter: the walk from each of them has one answer.
 fn skip(cells: &[u64], from: usize, n: usize, number: u64) -> usize
     requires { ⌜ (from ≤ n) × (n ≤ rows (now cells)) ⌝ }
     ensures { λ r. ⌜ firstFrom (numberIs (now (cells .entry)) number) At Nothing r (n - r) ≡ firstFrom (numberIs (now (cells .entry)) number) At Nothing from (n - from) ⌝ }

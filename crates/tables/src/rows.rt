@@ -56,6 +56,7 @@ fn standing_of(tag: u64) -> Standing
     match tag {
         0 => Standing::Live,
         1 => Standing::Closed,
+        // 2, and in unfit memory any tag past it
         _ => Standing::Cancelled,
     }
 }
@@ -130,6 +131,7 @@ fn state_of(tag: u64, day: u64) -> State
         2 => State::Settled(day),
         3 => State::Undone(day, Undoing::Return),
         4 => State::Undone(day, Undoing::Refund),
+        // 5, and in unfit memory any tag past it
         _ => State::Undone(day, Undoing::Reversal),
     }
 }

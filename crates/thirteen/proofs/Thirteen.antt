@@ -1,35 +1,60 @@
 -- The table of specs/Thirteen holds: one test that the checker computes over all rows, and a lemma that reads each row out of it.
 -- Assumes nothing.
-use mathlib.Core.Path.{_≡_}
+use mathlib.Core.Path.{_≡_, refl, ap, _∙_}
 use mathlib.Core.Bool.{Bool, true}
 use mathlib.Core.List.{List, [], _∷_}
+use Prim.Native.Nat.{ℕ}
 use lib.Dec.{T, eqb, eqb→eq}
 use Rattle.common.proofs.Every.{both, both-left, both-right}
-use Rattle.calendar.specs.Gregorian.{leap, leapDay, monthLength, isDate}
-use Rattle.calendar.specs.DayNumber.{daysBefore, yearStart, dayNumber, yearAt, monthAt, dateIn, dateAt, dateOf}
-use Rattle.calendar.specs.Easter.{computus, easterSunday, easterOf}
-use Rattle.calendar.specs.Target.{closedBy, closed, businessDay, isOpen, seek, firstOpen, openAfter, lastOpenBefore, firstBusinessDay, lastBusinessDayBefore}
-use Rattle.calendar.specs.Periods.{daysAfter, businessDaysAfter, monthCount, dayOfMonthCount, monthsAfter, periodEnd}
-use Rattle.common.specs.Walk.{firstFrom}
+use Rattle.calendar.specs.Easter.{easterOf}
 use Rattle.positions.specs.Compensation.{compensation as compensationFor, interest, halfUp}
-use Rattle.tables.specs.Ledger.{bankOf}
-use Rattle.tables.specs.Lookup.{lookup}
-use Rattle.tables.specs.Records.{mandateOf, collectionOf}
-use Rattle.tables.specs.Rows.{mandateAt, collectionAt}
-use Rattle.model.specs.Lookups as inLedger
-use Rattle.model.specs.Deadlines.{keptDue, timely, lastDay, lapseEnd}
-use Rattle.model.specs.Checks.{ruled}
-use Rattle.thirteen.specs.Thirteen.{Row, table, Agree, Thirteen}
+use Rattle.tables.specs.Ledger.{Ledger}
+use Rattle.tables.specs.Opening.{fresh}
+use Rattle.model.specs.Lookups.{mandateOf, collectionOf}
+use Rattle.model.specs.Step.{answerNumber}
+use Rattle.witness.specs.Opening.{lent}
+use Rattle.witness.proofs.Ruled.{ruledAnswer, ruledRun, lent-sizes, opened-run, opened-answer}
+use Rattle.thirteen.specs.Thirteen.{events, said, Question, Row, table, Agree, Thirteen}
+use Rattle.thirteen.specs.Thirteen.Question.{Easter, Kept, Months, Answer, Cents}
+
+-- ---- the answers by the rules alone, which compute
+
+abbrev computed : Question → ℕ
+computed (Easter year) = said (Easter year)
+computed (Kept requested) = said (Kept requested)
+computed (Months n date) = said (Months n date)
+computed (Answer e) = answerNumber (ruledAnswer (ruledRun (fresh lent) events) e)
+computed (Cents amount rate days) = said (Cents amount rate days)
+
+said-computed : (q : Question) → said q ≡ computed q
+said-computed (Easter year) = refl
+said-computed (Kept requested) = refl
+said-computed (Months n date) = refl
+said-computed (Answer e) = ap answerNumber (opened-answer lent lent-sizes events e)
+said-computed (Cents amount rate days) = refl
+
+-- ---- all rows by one test
+
+abbrev holds? : Row → Bool
+holds? r = eqb (computed (r .question)) (r .paper)
 
 abbrev agree? : List Row → Bool
 agree? [] = true
-agree? (r ∷ rs) = both (eqb (r .given) (r .paper)) (agree? rs)
+agree? (r ∷ rs) = both (holds? r) (agree? rs)
 
 agree : (rs : List Row) → T (agree? rs) → Agree rs
 agree [] t = tt
-agree (r ∷ rs) t =
-    (eqb→eq (r .given) (r .paper) (both-left (eqb (r .given) (r .paper)) (agree? rs) t), agree rs (both-right (eqb (r .given) (r .paper)) (agree? rs) t))
+agree (r ∷ rs) t = (
+  said-computed (r .question) ∙ eqb→eq (computed (r .question)) (r .paper) (both-left (holds? r) (agree? rs) t),
+  agree rs (both-right (holds? r) (agree? rs) t),
+)
 
 pub thirteen : Thirteen
-unfolding table leap leapDay monthLength isDate daysBefore yearStart dayNumber yearAt monthAt dateIn dateAt dateOf computus easterSunday easterOf closedBy closed businessDay isOpen seek firstOpen openAfter lastOpenBefore firstBusinessDay lastBusinessDayBefore daysAfter businessDaysAfter monthCount dayOfMonthCount monthsAfter periodEnd compensationFor interest halfUp firstFrom lookup mandateAt mandateOf collectionAt collectionOf keptDue timely lastDay lapseEnd inLedger.mandateOf inLedger.collectionOf bankOf ruled
-thirteen = agree table tt
+unfolding table ruledRun easterOf compensationFor interest halfUp
+thirteen = record {
+  settled = ap (λ (l : Ledger). collectionOf l 70) (opened-run lent lent-sizes events);
+  presented = ap (λ (l : Ledger). mandateOf l 7) (opened-run lent lent-sizes events);
+  rows = refl;
+  asked = refl;
+  agree = agree table tt;
+}

@@ -20,7 +20,8 @@ use Rattle.model.specs.declared.Answer.the-variants.{Refused}
 use Rattle.model.specs.Actions.{Change, Presentation, Treatment, newMandate, presentation, actionOf}
 use Rattle.model.specs.Actions.Action.{AddCreditor, AddMandate, ChangeMandate, Collect, Treat}
 use Rattle.model.specs.Actions.Change.{Cancel}
-use Rattle.model.specs.Step.{answer, after}
+use Rattle.model.specs.Step.{answerNumber, answer, after}
+use Rattle.model.proofs.Laws.Answers.{event-numbers}
 use Rattle.book.specs.declared.Outcome.{Outcome}
 use Rattle.book.specs.Calls.{Done}
 use Rattle.book.specs.declared.collect.Presentation.{Presentation as CodePresentation}
@@ -83,17 +84,20 @@ action-treat e t made h = action-treats e h ∙ ap (Treat (e .a)) (sym made)
 -- ---- the call
 
 module _ (l : Ledger) (e : Event) where
+  made : (r : Outcome) (l' : Ledger) → r .answer ≡ answer l e → l' ≡ after l e → Taken l e r l'
+  made r l' a b = record { answer-is = a; number-is = ap answerNumber a ∙ event-numbers l e; after-is = b }
+
   pub taken-unfit : (h : Header) → fit l ≡ false → Taken l e (record { answer = Refused UnfitMemory; header = h }) l
   unfolding answer after
-  taken-unfit h f = record { answer-is = rw f; after-is = rw f }
+  taken-unfit h f = made (record { answer = Refused UnfitMemory; header = h }) l (rw f) (rw f)
 
   pub taken-refused : (h : Header) (r : Refusal) → fit l ≡ true → checked e ≡ events.Refused r → Taken l e (record { answer = Refused r; header = h }) l
   unfolding answer after
-  taken-refused h r f c = record { answer-is = rw (f, c); after-is = rw (f, c) }
+  taken-refused h r f c = made (record { answer = Refused r; header = h }) l (rw (f, c)) (rw (f, c))
 
   pub taken-done : (r : Outcome) (l' : Ledger) → fit l ≡ true → checked e ≡ events.Within → Done l (e .date) (actionOf e) r l' → Taken l e r l'
   unfolding answer after
-  taken-done r l' f c d = record { answer-is = rw (f, c) (d .answer); after-is = rw (f, c) (d .after) }
+  taken-done r l' f c d = made r l' (rw (f, c) (d .answer)) (rw (f, c) (d .after))
 
 -- a new mandate is looked for from where the event's number is
 pub mandate-start : (m : Mandate) (e : Event) (cells : List ℕ) (used from : ℕ) → m ≡ newMandate e → MayStart cells used (e .mandate) from → MayStart cells used (m .number) from

@@ -21,7 +21,7 @@ use Rattle.tables.specs.Fitness.{sizesFit}
 use Rattle.tables.specs.Opening.{Outcome as Opening, openNumber, outcome, fresh, opened, opening}
 use Rattle.tables.proofs.Laws.Opening.{opening-done, opening-refused, opened-done}
 use Rattle.model.specs.Step.{answer, after, run}
-use Rattle.model.proofs.Laws.Invariant.{Safe}
+use Rattle.model.specs.Bounds.{Safe}
 use Rattle.model.proofs.Laws.Batch.{after-safe, run-more, opened-safe}
 use Rattle.model.proofs.Laws.Theorem.{demand3}
 use Rattle.book.specs.declared.Outcome.{Outcome}

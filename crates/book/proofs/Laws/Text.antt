@@ -21,7 +21,7 @@ use Rattle.events.specs.declared.limits.Checked.the-variants as events
 use Rattle.events.specs.declared.line.LineAnswer.{LineAnswer}
 use Rattle.events.specs.declared.line.LineAnswer.the-variants as lines
 use Rattle.events.specs.Limits.{checked}
-use Rattle.events.specs.Line.{fieldsOf, lineEnd, readLine, cellsAnswer, cellsAfter, pasted}
+use Rattle.events.specs.Line.{eventOf, lineEnd, readLine, checkedLine, cellsBy, pasted}
 use Rattle.events.proofs.Laws.Promises.{cells-taken}
 use Rattle.tables.specs.declared.Header.{Header}
 use Rattle.tables.specs.Ledger.{Ledger}
@@ -38,27 +38,22 @@ use Rattle.report.proofs.Laws.Layout.{length-answerLine, pasted-next, answerFit
 use Rattle.report.proofs.Laws.Run.{Answering, answering-start, answering-line, rest-after, rest-told}
 use Rattle.book.specs.declared.Outcome.{Outcome}
 use Rattle.book.specs.Events.{Taken}
-use Rattle.book.specs.Replay.{eventAt}
 use Rattle.book.specs.declared.text.Progress.{Progress}
 use Rattle.book.specs.declared.text.Lines.{Lines}
 use Rattle.book.specs.Text.{Prepared, Known, LineTaken, LineTold, LinesTold, unfitPiece, pieceFits, PieceTaken}
 
 -- ---- a line
 
-event-fields : (x : Event) → eventAt (fieldsOf x) 0 ≡ x
-unfolding eventAt
-event-fields x = refl
-
 -- the event of a line, by way of the cells that it was read into
 pub line-event : (line cells cells' : List ℕ) (a : Checked) (e : Event)
-    → a ≡ cellsAnswer line cells
-    → cells' ≡ cellsAfter line cells
+    → a ≡ checkedLine (readLine line)
+    → cells' ≡ cellsBy (readLine line) cells
     → a ≡ events.Within
-    → e ≡ eventAt cells' 0
+    → e ≡ eventOf cells'
     → (readLine line ≡ lines.Taken e) × (checked e ≡ events.Within)
 line-event line cells cells' a e p q w g =
     let t = cells-taken line cells (sym p ∙ w) in
-    let i : e ≡ t .event = g ∙ ap (λ (x : List ℕ). eventAt x 0) (q ∙ t .is-cells) ∙ event-fields (t .event) in
+    let i : e ≡ t .event = g ∙ ap eventOf (q ∙ t .is-cells) in
     (t .is-read ∙ ap lines.Taken (sym i), ap checked i ∙ t .is-within)
 
 module _ (l : Ledger) (line : List ℕ) where

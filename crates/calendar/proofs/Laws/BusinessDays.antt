@@ -1,6 +1,6 @@
 -- Laws of specs/Target: the first business day on or after a day, the n-th after it, the last one before it.
 -- To cite: `firstOpen-first`, `firstOpen-lt`, `firstOpen-near`, `firstOpen-mono`; `openAfter-more`, `openAfter-from`, `openAfter-near`,
--- `openAfter-mono`, `openAfter-count`; `lastOpen-last`, `lastOpen-is`, `lastOpen-exists`, `first-before`. Assumes nothing.
+-- `openAfter-mono`, `openAfter-count`; `lastOpen-is`, `lastOpen-exists`, `first-before`. Assumes nothing.
 use mathlib.Core.Path.{_≡_, refl, sym, ap, _∙_}
 use mathlib.Core.Bool.{Bool, true, false, cond, not}
 use mathlib.Core.Logic.{⊎-elim}
@@ -14,6 +14,7 @@ use borrow.Author.Tests.{lt-ltb, le-ltb}
 use Rattle.common.proofs.Tests.{never}
 use Rattle.calendar.specs.DayNumber.{calendarDays}
 use Rattle.calendar.specs.Target.{isOpen, First, seek, firstOpen, openAfter, Last, lastOpenBefore}
+use Rattle.calendar.specs.Promises.{LastFound}
 use Rattle.calendar.specs.declared.DayAnswer.the-variants.{Day, NoDay}
 use Rattle.calendar.proofs.Laws.Target.{open-lt, closed-not-last, first-unique, first-here, first-later, first-rest, first-mono}
 use Rattle.calendar.proofs.Laws.Holidays.{first-near}
@@ -164,15 +165,6 @@ pub lastOpen-none : lastOpenBefore 0 ≡ NoDay
 unfolding lastOpenBefore
 lastOpen-none = refl
 
-last-case : (b : Bool) (n r : ℕ) → isOpen n ≡ b → cond b (Day n) (lastOpenBefore n) ≡ Day r → (lastOpenBefore n ≡ Day r → Last n r) → Last (suc n) r
-last-case true n r e p ih = let q : n ≡ r = cc in rw (← q) (last-here n e)
-last-case false n r e p ih = last-earlier n r e (ih p)
-
-pub lastOpen-last : (n r : ℕ) → lastOpenBefore n ≡ Day r → Last n r
-unfolding lastOpenBefore
-lastOpen-last zero r e = absurd (let z : _≡_ {A = ℕ} 0 1 = cc in omega arith)
-lastOpen-last (suc n) r e = last-case (isOpen n) n r refl e (lastOpen-last n r)
-
 is-case : (b : Bool) (n r : ℕ) → isOpen n ≡ b → Last (suc n) r → (Last n r → lastOpenBefore n ≡ Day r) → cond b (Day n) (lastOpenBefore n) ≡ Day r
 is-case true n r e l ih = ap Day (last-unique (suc n) n r (last-here n e) l)
 is-case false n r e l ih = ih (last-rest n r e l)
@@ -201,13 +193,7 @@ last-from zero r h o = absurd (omega arith)
 last-from (suc n) r h o = from-case (isOpen n) n r refl (omega arith) o (λ l. last-from n r l o)
 
 -- among the five days before a day there is one
-pub record LastNear (n : ℕ) : Type 0 where
-  pub day : ℕ
-  pub is : lastOpenBefore n ≡ Day day
-  pub last : Last n day
-  pub near : n ≤ day + 5
-
-pub lastOpen-exists : (n : ℕ) → 5 ≤ n → n < calendarDays → LastNear n
+pub lastOpen-exists : (n : ℕ) → 5 ≤ n → n < calendarDays → LastFound n
 lastOpen-exists n l h =
     let m = firstOpen-near (n - 5) (omega arith) in
     let f = firstOpen-first (n - 5) (omega arith) in

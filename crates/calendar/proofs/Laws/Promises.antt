@@ -10,7 +10,7 @@ use Rattle.calendar.specs.Promises.{Conversions, EasterSundays, FirstBus
 use Rattle.calendar.proofs.Laws.Gregorian.{range-facts}
 use Rattle.calendar.proofs.Laws.DayNumber.{dayNumber-lt, dateAt-date, dateAt-dayNumber, dayNumber-dateAt, dayNumber-mono, dateAt-mono}
 use Rattle.calendar.proofs.Laws.Easter.{easter-facts}
-use Rattle.calendar.proofs.Laws.BusinessDays.{firstOpen-first, firstOpen-near, openAfter-zero, openAfter-from, openAfter-first, lastOpen-last}
+use Rattle.calendar.proofs.Laws.BusinessDays.{firstOpen-first, firstOpen-near, openAfter-zero, openAfter-from, openAfter-first, lastOpen-exists}
 use Rattle.calendar.proofs.Laws.BusinessDates.{keptDate, firstBusinessDay-is, keptDate-business, keptDate-from, kept-in-range}
 use Rattle.calendar.proofs.Laws.PeriodEnds.{longest, range-period-end}
 
@@ -89,7 +89,7 @@ nth-business-day n d h =
     }
 
 pub last-business-day : LastBusinessDay
-last-business-day = lastOpen-last
+last-business-day = lastOpen-exists
 
 -- ---- the ends of the range
 

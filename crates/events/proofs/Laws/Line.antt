@@ -28,7 +28,7 @@ use Rattle.events.specs.declared.line.FieldAnswer.{FieldAnswer}
 use Rattle.events.specs.declared.line.FieldAnswer.the-variants.{Value, NoValue}
 use Rattle.events.proofs.Laws.Limits.{Limited, everyRow, rowOf-every, rowOf-codes, second-le}
 use Rattle.events.specs.Limits.{table, lastKind, checked}
-use Rattle.events.specs.Line.{widths, columns, lineLength, lineEnd, lineOf, taken, readLine, checkedLine, cellsBy, cellsAnswer, cellsAfter, writtenOf, writeAnswer, bytesAfter, fieldsOf, eventOf, pasted, blank, zeroDigit, lastDigit, padded, fieldBytes, fieldsBytes, isDigit, readDigits, readNumber, readField, Fields, Values, Unreadable, joined, readFields}
+use Rattle.events.specs.Line.{widths, columns, lineLength, lineEnd, lineOf, taken, readLine, checkedLine, cellsBy, writtenOf, writeAnswer, bytesAfter, fieldsOf, eventOf, pasted, blank, zeroDigit, lastDigit, padded, fieldBytes, fieldsBytes, isDigit, readDigits, readNumber, readField, Fields, Values, Unreadable, joined, readFields}
 
 -- ---- powers of ten
 
@@ -649,7 +649,7 @@ pub lineOf-front : (e : Event) (r : List ℕ)
 unfolding lineOf
 lineOf-front e r = simp (append-assoc, append-nil)
 
--- ---- readLine, cellsAnswer, cellsAfter, writeAnswer, bytesAfter
+-- ---- readLine, writeAnswer, bytesAfter
 
 module _ (l : List ℕ) where
   pub readLine-length : (length l ≡ lineLength → ⊥) → readLine l ≡ lines.Refused BadLine
@@ -663,18 +663,6 @@ module _ (l : List ℕ) where
   pub readLine-fields : length l ≡ lineLength → getD l columns 0 ≡ lineEnd → readLine l ≡ taken (readFields widths 0 l)
   unfolding readLine
   readLine-fields e g = rw (eq-eqb (length l) lineLength e, eq-eqb (getD l columns 0) lineEnd g)
-
-module _ (l cells : List ℕ) where
-  pub cells-unfit : (length cells ≡ length widths → ⊥)
-      → (cellsAnswer l cells ≡ Refused UnfitMemory) × (cellsAfter l cells ≡ cells)
-  unfolding cellsAnswer cellsAfter
-  cells-unfit n = (rw (ne-eqb (length cells) (length widths) n), rw (ne-eqb (length cells) (length widths) n))
-
-  -- nine cells go by the answer of the line
-  pub cells-line : length cells ≡ length widths
-      → (cellsAnswer l cells ≡ checkedLine (readLine l)) × (cellsAfter l cells ≡ cellsBy (readLine l) cells)
-  unfolding cellsAnswer cellsAfter
-  cells-line e = (rw (eq-eqb (length cells) (length widths) e), rw (eq-eqb (length cells) (length widths) e))
 
 module _ (e : Event) (out : List ℕ) where
   pub writeAnswer-short : length out < lineLength → writeAnswer e out ≡ writes.Refused UnfitMemory

@@ -20,10 +20,10 @@ use Rattle.events.specs.declared.line.LineAnswer.{LineAnswer}
 use Rattle.events.specs.declared.line.LineAnswer.the-variants as lines
 use Rattle.events.specs.declared.line.WriteAnswer.the-variants as writes
 use Rattle.events.specs.Limits.{within, kinds, fieldsFit, checked}
-use Rattle.events.specs.Line.{widths, fieldsOf, eventOf, columns, lineLength, lineEnd, fieldsBytes, lineOf, Fields, Values, Unreadable, readFields, answerOf, taken, readLine, checkedLine, cellsBy, cellsAnswer, cellsAfter, writeAnswer, bytesAfter, lineNumber, writeNumber, writtenOf}
+use Rattle.events.specs.Line.{widths, fieldsOf, eventOf, columns, lineLength, lineEnd, fieldsBytes, lineOf, Fields, Values, Unreadable, readFields, answerOf, taken, readLine, checkedLine, cellsBy, writeAnswer, bytesAfter, lineNumber, writeNumber, writtenOf}
 use Rattle.events.specs.Promises.{LineHasItsLength, ReadsWhatWasWritten, WritesWhatWasRead, OnlyWithinIsTaken, EveryEventHasALine, NoEventHasTwoLines, NoLineHasTwoEvents, among, ReaderAnswers, WriterAnswers}
 use Rattle.events.proofs.Laws.Limits.{checked-facts}
-use Rattle.events.proofs.Laws.Line.{length-fieldsBytes, readFields-fieldsBytes, fieldsBytes-readFields, narrow-fields, fieldsOf-eventOf, cells-line}
+use Rattle.events.proofs.Laws.Line.{length-fieldsBytes, readFields-fieldsBytes, fieldsBytes-readFields, narrow-fields, fieldsOf-eventOf}
 
 length-columns : (e : Event) → length (fieldsBytes widths (fieldsOf e)) ≡ columns
 length-columns e = length-fieldsBytes widths (fieldsOf e) refl
@@ -133,45 +133,28 @@ writes-what-was-read l e out t h =
 pub record CellsTaken (line cells : List ℕ) : Type 0 where
   pub event : Event
   pub is-read : readLine line ≡ lines.Taken event
-  pub is-cells : cellsAfter line cells ≡ fieldsOf event
+  pub is-cells : cellsBy (readLine line) cells ≡ fieldsOf event
   pub is-within : checked event ≡ Within
 
-cond-within : (b : Bool) (x : Checked) → cond b x (Refused UnfitMemory) ≡ Within → (b ≡ true) × (x ≡ Within)
-cond-within true x t = (refl, t)
-cond-within false x t = let z : _≡_ {A = ℕ} 0 1 = cc in absurd (omega arith)
-
-answer-taken : (line cells : List ℕ) (a : LineAnswer)
-    → length cells ≡ length widths
-    → readLine line ≡ a
-    → checkedLine a ≡ Within
-    → CellsTaken line cells
-answer-taken line cells (lines.Taken e) n p t =
+answer-taken : (line cells : List ℕ) (a : LineAnswer) → readLine line ≡ a → checkedLine a ≡ Within → CellsTaken line cells
+answer-taken line cells (lines.Taken e) p t =
     record {
       event = e;
       is-read = p;
-      is-cells = cells-line line cells n .1 ∙ ap (λ (a : LineAnswer). cellsBy a cells) p;
+      is-cells = ap (λ (a : LineAnswer). cellsBy a cells) p;
       is-within = only-within-is-taken line e p;
     }
-answer-taken line cells (lines.Refused r) n p t = let z : _≡_ {A = ℕ} 0 1 = cc in absurd (omega arith)
+answer-taken line cells (lines.Refused r) p t = let z : _≡_ {A = ℕ} 0 1 = cc in absurd (omega arith)
 
-pub cells-taken : (line cells : List ℕ) → cellsAnswer line cells ≡ Within → CellsTaken line cells
-unfolding cellsAnswer
-cells-taken line cells t =
-    let p = cond-within (eqb (length cells) (length widths)) (checkedLine (readLine line)) t in
-    answer-taken line cells (readLine line) (eqb-true (length cells) (length widths) (p .0)) refl (p .1)
+pub cells-taken : (line cells : List ℕ) → checkedLine (readLine line) ≡ Within → CellsTaken line cells
+cells-taken line cells t = answer-taken line cells (readLine line) refl t
 
 checkedLine-refused : (a : LineAnswer) (r : Refusal) → checkedLine a ≡ Refused r → a ≡ lines.Refused r
 checkedLine-refused (lines.Taken e) r t = let z : _≡_ {A = ℕ} 0 1 = cc in absurd (omega arith)
 checkedLine-refused (lines.Refused s) r t = let p : s ≡ r = cc in ap lines.Refused p
 
-pub cells-refused : (line cells : List ℕ) (r : Refusal)
-    → length cells ≡ length widths
-    → cellsAnswer line cells ≡ Refused r
-    → (readLine line ≡ lines.Refused r) × (cellsAfter line cells ≡ cells)
-cells-refused line cells r n t =
-    let c = cells-line line cells n in
-    let p = checkedLine-refused (readLine line) r (sym (c .0) ∙ t) in
-    (p, c .1 ∙ ap (λ (a : LineAnswer). cellsBy a cells) p)
+pub cells-refused : (line : List ℕ) (r : Refusal) → checkedLine (readLine line) ≡ Refused r → readLine line ≡ lines.Refused r
+cells-refused line r t = checkedLine-refused (readLine line) r t
 
 -- ---- the numbers of the answers
 

@@ -15,19 +15,9 @@ use Rattle.model.specs.Lookups.{Known, mandateOf, collectionOf}
 use Rattle.model.specs.Lookups.Known.{unknown, known}
 use Rattle.model.specs.Journal.{Journal, NotedMandate, NotedCollection}
 use Rattle.model.specs.Promises.{isEnd, isUndo, isSettle}
+use Rattle.model.proofs.Laws.Wordings.{notedOf}
 
--- ---- a mandate and a collection as the journal notes them
-
-unfoldable pub notedOf : Mandate → NotedMandate
-notedOf m = record {
-  creditor = m .creditor;
-  debtor = m .debtor;
-  bank = m .bank;
-  signed = m .signed;
-  code = m .code;
-  standing = m .standing;
-  presented = m .presented;
-}
+-- ---- a mandate and a collection as the journal has them noted
 
 abbrev pub notedKnown : Known Mandate → Known NotedMandate
 notedKnown unknown = unknown

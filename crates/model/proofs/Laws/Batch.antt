@@ -10,7 +10,8 @@ use Rattle.tables.specs.Opening.{opened}
 use Rattle.model.specs.Actions.{actionOf}
 use Rattle.model.specs.Step.{isAccepted, answer, after, run}
 use Rattle.model.proofs.Laws.Sound.{sound-event}
-use Rattle.model.proofs.Laws.Invariant.{Safe, safe-kept}
+use Rattle.model.proofs.Laws.Invariant.{safe-kept}
+use Rattle.model.specs.Bounds.{Safe}
 use Rattle.model.proofs.Laws.Theorem.{accepted-passed, after-accepted, after-refused, is-accepted, Past, opening-past}
 
 safe-case : (l : Ledger) (e : Event) (b : Bool) → isAccepted (answer l e) ≡ b → Safe l → Safe (after l e)

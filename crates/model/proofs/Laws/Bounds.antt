@@ -1,21 +1,14 @@
 -- The positions stay within what the collections have moved, and the sums stay zero.
--- To cite: `Bounded`, `Balanced`, `Posting` with `settle-posting` and `undo-posting`, `bounded-posted`, `balanced-posted`. Assumes nothing.
+-- To cite: `Balanced`, `Posting` with `settle-posting` and `undo-posting`, `bounded-posted`, `balanced-posted`. Assumes nothing.
 use mathlib.Core.Path.{_≡_, refl, sym, _∙_}
-use mathlib.Core.Bool.{Bool, true, false, cond}
+use mathlib.Core.Bool.{true}
 use mathlib.Core.List.{List}
 use Prim.Native.Nat.{ℕ, _+_, _-_, _≤_}
 use native.Mathlib.Omega.{arith}
-use lib.Dec.{eqb}
-use borrow.Author.Tests.{ltb-false}
 use lib.IntN.{ℤ, pos, negℤ, natAbs, _+ℤ_, negℤ-negℤ}
-use Rattle.common.proofs.Tests.{not-true}
 use Rattle.calendar.specs.Gregorian.{inRange}
-use Rattle.calendar.specs.Periods.{periodEnd, isAfter}
-use Rattle.calendar.specs.declared.DateAnswer.{DateAnswer}
-use Rattle.calendar.specs.declared.DateAnswer.the-variants.{Date}
 use Rattle.calendar.proofs.Laws.Gregorian.{range-facts}
 use Rattle.calendar.proofs.Laws.DayNumber.{dayNumber-mono-le}
-use Rattle.calendar.proofs.Laws.PeriodEnds.{longest, range-period-end}
 use Rattle.positions.specs.declared.Postings.{Postings}
 use Rattle.positions.specs.Positions.{Entry, position, posted, transferred, total}
 use Rattle.positions.specs.Postings.{settlement, reversed, refunded, partySum, bankSum}
@@ -28,38 +21,21 @@ use Rattle.tables.specs.Ledger.{Ledger}
 use Rattle.tables.specs.declared.Collection.{Collection}
 use Rattle.model.specs.Actions.{Way}
 use Rattle.model.specs.Actions.Way.{ByReturn, ByRefund, ByReversal}
-use Rattle.model.specs.Deadlines.{core, periodOf, lastDay, inTime, daysSince}
+use Rattle.model.specs.Deadlines.{lastDay, inTime, daysSince}
+use Rattle.model.specs.Bounds.{spent, Bounded}
 use Rattle.model.specs.Effects.{dated, keepCollection, withPostings, undone}
 use Rattle.model.proofs.Laws.Sound.{SoundWay}
-use Rattle.model.proofs.Laws.Spent.{spent}
+use Rattle.model.proofs.Laws.Limits.{at-most-limit, longest-way, last-day-found}
 
 -- ---- the days of an undoing in time
 
-refund-longest : (b : Bool) → longest (cond b (core .authorised) (core .unauthorised)) ≤ 453
-unfolding longest
-refund-longest true = omega arith
-refund-longest false = omega arith
-
--- every last day is within 453 days
-longest-way : (way : Way) → longest (periodOf core way) ≤ 453
-unfolding longest
-longest-way ByReturn = omega arith
-longest-way (ByRefund rate code) = refund-longest (eqb code 0)
-longest-way ByReversal = omega arith
-
--- a date that is not after one that was worked out
-not-after : (date last : ℕ) (a : DateAnswer) → a ≡ Date last → isAfter date a ≡ false → date ≤ last
-not-after date last a e f = ltb-false last date (rw e at f)
-
 -- so the calendar days of an undoing in time are few
 pub days-in-time : (way : Way) (settled date : ℕ) → inRange settled ≡ true → inRange date ≡ true → inTime way settled date ≡ true → daysSince settled date ≤ daysLimit
-unfolding lastDay
 days-in-time way settled date rs rd h =
-    let w = longest-way way in
-    let e = range-period-end (periodOf core way) settled rs (omega arith) in
-    let l = not-after date (e .date) (periodEnd (periodOf core way) settled) (e .is) (not-true h) in
+    let e = last-day-found way settled rs in
+    let l = at-most-limit date (e .date) (lastDay way settled) (e .is) h in
     let m = dayNumber-mono-le date (e .date) (range-facts date rd .is-date) (e .is-date) l in
-    omega (arith, e .near)
+    omega (arith, longest-way way, e .near)
 
 -- ---- what an event posts
 
@@ -137,14 +113,6 @@ undo-posting (ByRefund rate code) A settled date s a d =
 undo-posting ByReversal A settled date s a d = larger (omega arith) (reversed-posting A)
 
 -- ---- bounds
-
-pub record Bounded (l : Ledger) : Type 0 where
-  pub creditors : (n : ℕ) → natAbs (position (l .creditorPositions) n) ≤ spent l
-  pub debtors : (n : ℕ) → natAbs (position (l .debtorPositions) n) ≤ spent l
-  pub banks : (n : ℕ) → natAbs (position (l .bankPositions) n) ≤ spent l
-  pub cents : ℕ
-  pub paid : l .compensation ≡ pos cents
-  pub cents-le : cents ≤ spent l
 
 pub record Balanced (l : Ledger) : Type 0 where
   pub parties : total (l .creditorPositions) +ℤ total (l .debtorPositions) +ℤ l .compensation ≡ pos 0

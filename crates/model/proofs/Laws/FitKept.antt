@@ -38,8 +38,9 @@ use Rattle.model.specs.Deadlines.{keptDue}
 use Rattle.model.specs.Effects.{dated, keepMandate, addCollection, keepCollection, withPostings, changed, presentedOn, newCollection, treated, stateAfter, effect}
 use Rattle.model.proofs.Laws.Sound.{SoundCreditor, SoundMandate, SoundChange, SoundPresentation}
 use Rattle.model.proofs.Laws.Effects.{MandateThere, CollectionThere, effect-change, effect-collect}
-use Rattle.model.proofs.Laws.Spent.{spent, spent-limit}
-use Rattle.model.proofs.Laws.Bounds.{Bounded}
+use Rattle.model.specs.Bounds.{spent}
+use Rattle.model.proofs.Laws.Spent.{spent-limit}
+use Rattle.model.specs.Bounds.{Bounded}
 
 -- ---- dates
 

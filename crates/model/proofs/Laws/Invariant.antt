@@ -1,5 +1,5 @@
 -- What every accepted event keeps, for any ledger and journal that agree: the tables are fit, the journal agrees, the sums are zero and
--- the positions within what the collections have moved. To cite: `Safe`, `safe-kept` (the tables alone), `Sane`, `sane-kept`, `UndoFacts` with `undo-facts`. Assumes nothing.
+-- the positions within what the collections have moved. To cite: `safe-kept` (the tables alone), `Sane`, `sane-kept`, `UndoFacts` with `undo-facts`. Assumes nothing.
 use mathlib.Core.Path.{_≡_, refl, sym, ap, subst, _∙_}
 use mathlib.Core.Bool.{Bool, true, not}
 use mathlib.Core.Logic.{_≢_}
@@ -29,21 +29,18 @@ use Rattle.model.specs.Deadlines.{inTime}
 use Rattle.model.specs.Lookups.{Known, isKnown, ofKnown, mandateOf, collectionOf}
 use Rattle.model.specs.Lookups.Known.{known}
 use Rattle.model.specs.Checks.{isPresented, stateFits, settledOn, timeTreated}
+use Rattle.model.specs.Bounds.{sumRows, moved, movedAt, spent, Bounded, Safe}
 use Rattle.model.specs.Effects.{dated, keepMandate, keepCollection, addCollection, withPostings, changed, presentedOn, newCollection, treated, undone, effect}
-use Rattle.model.specs.Journal.{Journal, note}
+use Rattle.model.specs.Journal.{Journal}
 use Rattle.model.proofs.Laws.Sound.{Sound, SoundWay, Passed}
 use Rattle.model.proofs.Laws.Effects.{not-known, MandateThere, mandate-there, CollectionThere, collection-there, effect-change, effect-collect, effect-treat}
+use Rattle.model.proofs.Laws.Wordings.{noteOf}
 use Rattle.model.proofs.Laws.Agree.{Agrees}
 use Rattle.model.proofs.Laws.KeptMandates.{Counts, agrees-creditor, agrees-mandate, agrees-change, agrees-collect}
 use Rattle.model.proofs.Laws.KeptTreatments.{is-presented, is-settled, creditor-entry, debtor-entry, dbank-entry, cbank-entry, agrees-settle, agrees-reject, agrees-undo}
-use Rattle.model.proofs.Laws.Spent.{sumRows, moved, movedAt, spent, sum-treated, sum-added}
-use Rattle.model.proofs.Laws.Bounds.{Bounded, Balanced, Posting, larger, settle-posting, undo-posting, days-in-time, bounded-posted, balanced-posted}
+use Rattle.model.proofs.Laws.Spent.{sum-treated, sum-added}
+use Rattle.model.proofs.Laws.Bounds.{Balanced, Posting, larger, settle-posting, undo-posting, days-in-time, bounded-posted, balanced-posted}
 use Rattle.model.proofs.Laws.FitKept.{fit-creditor, fit-mandate-added, fit-change, fit-collect, fit-kept, fit-posted}
-
--- the tables alone: fit, and the positions within what the collections have moved
-pub record Safe (l : Ledger) : Type 0 where
-  pub fits : fit l ≡ true
-  pub bounded : Bounded l
 
 pub record Sane (l : Ledger) (j : Journal) (t : (Treatment → Bool) → ℕ → ℕ) : Type 0 where
   pub safe : Safe l
@@ -244,7 +241,7 @@ module _ (l : Ledger) (j : Journal) (t t' : (Treatment → Bool) → ℕ → ℕ
         (cbank-entry l j t t' date a sizes n h)
 
     record Treated (tr : Treatment) : Type 0 where
-      agrees : Agrees (effect l date (Treat n tr)) (note j date (Treat n tr)) t'
+      agrees : Agrees (effect l date (Treat n tr)) (noteOf j date (Treat n tr)) t'
       balanced : Balanced (effect l date (Treat n tr))
 
     treats-kept : (tr : Treatment) → Sound (Treat n tr) → Passed l date (Treat n tr) → Counts t t' (Treat n tr) → Treated tr
@@ -269,7 +266,7 @@ module _ (l : Ledger) (j : Journal) (t t' : (Treatment → Bool) → ℕ → ℕ
               (balanced-treated (Undo way) _ (amountLimit + compensationLimit) (undo-post l date (s .safe) range n h way o u));
         }
 
-  pub sane-kept : (a : Action) → Sound a → Passed l date a → Counts t t' a → Sane (effect l date a) (note j date a) t'
+  pub sane-kept : (a : Action) → Sound a → Passed l date a → Counts t t' a → Sane (effect l date a) (noteOf j date a) t'
   unfolding effect
   sane-kept (AddCreditor a b) o p c =
       record {
@@ -282,7 +279,7 @@ module _ (l : Ledger) (j : Journal) (t t' : (Treatment → Bool) → ℕ → ℕ
       let u = not-known (mandateOf l (m .number)) (not-true (p .new)) in
       record {
         safe = safe-kept l date (s .safe) range (AddMandate m) o p;
-        agrees = agrees-mandate l j t t' date (s .agrees) m o r u c;
+        agrees = agrees-mandate l j t t' date (s .agrees) m r u c;
         balanced = same-balanced (effect l date (AddMandate m)) refl refl refl refl;
       }
   sane-kept (ChangeMandate n x) o p c =

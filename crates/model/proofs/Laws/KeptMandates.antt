@@ -27,12 +27,12 @@ use Rattle.model.specs.Actions.Change.{NewBank, NewCreditor, Cancel}
 use Rattle.model.specs.Lookups.{Known, mandateOf, collectionOf}
 use Rattle.model.specs.Lookups.Known.{unknown, known}
 use Rattle.model.specs.Effects.{dated, keepMandate, addCollection, changed, presentedOn, newCollection, effect}
-use Rattle.model.specs.Journal.{Journal, NotedMandate, NotedCollection, noted, withMandate, withCollection, newNoted, notedChange, notedPresented, notedCollection, note}
+use Rattle.model.specs.Journal.{Journal, NotedMandate, NotedCollection, noted, withMandate, withCollection}
 use Rattle.model.specs.Promises.{treats}
 use Rattle.model.proofs.Laws.Views.{mandateOf-keep, mandateOf-add, collectionOf-add}
-use Rattle.model.proofs.Laws.Sound.{SoundMandate}
 use Rattle.model.proofs.Laws.Effects.{MandateThere, effect-change, effect-collect}
-use Rattle.model.proofs.Laws.Agree.{notedOf, notedKnown, SameCollection, SameKnown, endsOf, undosOf, settlesOf, inKnown, Agrees}
+use Rattle.model.proofs.Laws.Wordings.{notedOf, changeOf, presentOf, collectionNoted, noteOf}
+use Rattle.model.proofs.Laws.Agree.{notedKnown, SameCollection, SameKnown, endsOf, undosOf, settlesOf, inKnown, Agrees}
 
 presented-not-settled : (s : ℕ) → Presented ≡ Settled s → ⊥
 presented-not-settled s e = let z : _≡_ {A = ℕ} 0 1 = cc in omega arith
@@ -70,8 +70,8 @@ bankOf-set creditors a b low high n =
     (true-or-false (eqb n a))
 
 module _ (l : Ledger) (j : Journal) (t t' : (Treatment → Bool) → ℕ → ℕ) (date : ℕ) (g : Agrees l j t) where
-  pub agrees-creditor : (a b : ℕ) → Within 1 creditorCount a → length (l .creditors) ≡ creditorCount → Counts t t' (AddCreditor a b) → Agrees (effect l date (AddCreditor a b)) (note j date (AddCreditor a b)) t'
-  unfolding effect note mandateOf collectionOf
+  pub agrees-creditor : (a b : ℕ) → Within 1 creditorCount a → length (l .creditors) ≡ creditorCount → Counts t t' (AddCreditor a b) → Agrees (effect l date (AddCreditor a b)) (noteOf j date (AddCreditor a b)) t'
+  unfolding effect noteOf mandateOf collectionOf
   agrees-creditor a b w len n =
       record {
         banks =
@@ -95,20 +95,15 @@ module _ (l : Ledger) (j : Journal) (t t' : (Treatment → Bool) → ℕ → ℕ
   noted-cond true m x y e = refl
   noted-cond false m x y e = e
 
-  new-noted : (m : Mandate) → SoundMandate m → notedOf m ≡ newNoted m
-  unfolding notedOf newNoted
-  new-noted m s = rw (s .live, s .nothing)
-
-  pub agrees-mandate : (m : Mandate) → SoundMandate m → l .mandatesUsed < rows (l .mandates) → mandateOf l (m .number) ≡ unknown → Counts t t' (AddMandate m) → Agrees (effect l date (AddMandate m)) (note j date (AddMandate m)) t'
-  unfolding effect note mandateOf collectionOf
-  agrees-mandate m s h u n =
+  pub agrees-mandate : (m : Mandate) → l .mandatesUsed < rows (l .mandates) → mandateOf l (m .number) ≡ unknown → Counts t t' (AddMandate m) → Agrees (effect l date (AddMandate m)) (noteOf j date (AddMandate m)) t'
+  unfolding effect noteOf mandateOf collectionOf
+  agrees-mandate m h u n =
       record {
         banks = g .banks;
         mandates =
             λ k.
             ap notedKnown (mandateOf-add l m h u k)
-            ∙ noted-cond (eqb k (m .number)) m (mandateOf l k) (j .mandates k) (g .mandates k)
-            ∙ ap (λ (x : NotedMandate). cond (eqb k (m .number)) (known x) (j .mandates k)) (new-noted m s);
+            ∙ noted-cond (eqb k (m .number)) m (mandateOf l k) (j .mandates k) (g .mandates k);
         collections = g .collections;
         creditor-figures = g .creditor-figures;
         debtor-figures = g .debtor-figures;
@@ -127,8 +122,8 @@ module _ (l : Ledger) (j : Journal) (t t' : (Treatment → Bool) → ℕ → ℕ
   changed-number (NewCreditor a) m = refl
   changed-number Cancel m = refl
 
-  noted-changed : (c : Change) (m : Mandate) → notedOf (changed c m) ≡ notedChange c (notedOf m)
-  unfolding changed notedOf notedChange
+  noted-changed : (c : Change) (m : Mandate) → notedOf (changed c m) ≡ changeOf c (notedOf m)
+  unfolding changed notedOf changeOf
   noted-changed (NewBank b) m = refl
   noted-changed (NewCreditor a) m = refl
   noted-changed Cancel m = refl
@@ -137,8 +132,8 @@ module _ (l : Ledger) (j : Journal) (t t' : (Treatment → Bool) → ℕ → ℕ
   noted-there : (n : ℕ) (h : MandateThere l n) → j .mandates n ≡ known (notedOf (h .mandate))
   noted-there n h = sym (g .mandates n) ∙ ap notedKnown (h .is)
 
-  note-change : (n : ℕ) (c : Change) (h : MandateThere l n) → note j date (ChangeMandate n c) ≡ withMandate j n (notedChange c (notedOf (h .mandate)))
-  unfolding note
+  note-change : (n : ℕ) (c : Change) (h : MandateThere l n) → noteOf j date (ChangeMandate n c) ≡ withMandate j n (changeOf c (notedOf (h .mandate)))
+  unfolding noteOf
   note-change n c h = rw (noted-there n h)
 
   -- a mandate written to its row is noted under its number
@@ -151,14 +146,14 @@ module _ (l : Ledger) (j : Journal) (t t' : (Treatment → Bool) → ℕ → ℕ
       ∙ noted-cond (eqb k n) m (mandateOf l k) (j .mandates k) (g .mandates k)
       ∙ ap (λ (y : NotedMandate). cond (eqb k n) (known y) (j .mandates k)) e
 
-  pub agrees-change : (n : ℕ) (c : Change) (h : MandateThere l n) → Counts t t' (ChangeMandate n c) → Agrees (effect l date (ChangeMandate n c)) (note j date (ChangeMandate n c)) t'
+  pub agrees-change : (n : ℕ) (c : Change) (h : MandateThere l n) → Counts t t' (ChangeMandate n c) → Agrees (effect l date (ChangeMandate n c)) (noteOf j date (ChangeMandate n c)) t'
   unfolding collectionOf
   agrees-change n c h cs =
       rw (effect-change l date n c h, note-change n c h)
       (record {
         banks = g .banks;
         mandates =
-            kept-noted n h (changed c (h .mandate)) (notedChange c (notedOf (h .mandate))) (changed-number c (h .mandate) ∙ h .number)
+            kept-noted n h (changed c (h .mandate)) (changeOf c (notedOf (h .mandate))) (changed-number c (h .mandate) ∙ h .number)
             (noted-changed c (h .mandate));
         collections = g .collections;
         creditor-figures = g .creditor-figures;
@@ -172,8 +167,8 @@ module _ (l : Ledger) (j : Journal) (t t' : (Treatment → Bool) → ℕ → ℕ
 
   -- ---- event 5
 
-  noted-presented : (p : Presentation) (m : Mandate) → notedOf (presentedOn p m) ≡ notedPresented p (notedOf m)
-  unfolding presentedOn notedOf notedPresented
+  noted-presented : (p : Presentation) (m : Mandate) → notedOf (presentedOn p m) ≡ presentOf p (notedOf m)
+  unfolding presentedOn notedOf presentOf
   noted-presented p m = refl
 
   presented-number : (p : Presentation) (m : Mandate) → presentedOn p m .number ≡ m .number
@@ -186,13 +181,13 @@ module _ (l : Ledger) (j : Journal) (t t' : (Treatment → Bool) → ℕ → ℕ
   bank-noted n h =
       ap (λ (b : ℕ). eqb b 0) (sym (g .banks (h .mandate .creditor))) ∙ not-true (h .fits .creditor-added)
 
-  note-collect : (p : Presentation) (h : MandateThere l (p .mandate)) → note j date (Collect p) ≡ withCollection (withMandate j (p .mandate) (notedPresented p (notedOf (h .mandate)))) (p .collection) (notedCollection j p (notedOf (h .mandate)))
-  unfolding note
+  note-collect : (p : Presentation) (h : MandateThere l (p .mandate)) → noteOf j date (Collect p) ≡ withCollection (withMandate j (p .mandate) (presentOf p (notedOf (h .mandate)))) (p .collection) (collectionNoted j p (notedOf (h .mandate)))
+  unfolding noteOf
   note-collect p h = rw (noted-there (p .mandate) h, bank-noted (p .mandate) h)
 
   -- the new collection is noted as it is kept
-  same-new : (p : Presentation) (m : Mandate) → SameCollection (newCollection (l .creditors) p m) (notedCollection j p (notedOf m))
-  unfolding newCollection notedCollection notedOf
+  same-new : (p : Presentation) (m : Mandate) → SameCollection (newCollection (l .creditors) p m) (collectionNoted j p (notedOf m))
+  unfolding newCollection collectionNoted notedOf
   same-new p m =
       record {
         creditor = refl;
@@ -212,7 +207,7 @@ module _ (l : Ledger) (j : Journal) (t t' : (Treatment → Bool) → ℕ → ℕ
   count-new f true k x z u = z ∙ sym (u refl)
   count-new f false k x z u = refl
 
-  pub agrees-collect : (p : Presentation) (h : MandateThere l (p .mandate)) → l .collectionsUsed < rows (l .collections) → collectionOf l (p .collection) ≡ unknown → Counts t t' (Collect p) → Agrees (effect l date (Collect p)) (note j date (Collect p)) t'
+  pub agrees-collect : (p : Presentation) (h : MandateThere l (p .mandate)) → l .collectionsUsed < rows (l .collections) → collectionOf l (p .collection) ≡ unknown → Counts t t' (Collect p) → Agrees (effect l date (Collect p)) (noteOf j date (Collect p)) t'
   unfolding mandateOf collectionOf newCollection
   agrees-collect p h r u cs =
       let m = h .mandate in
@@ -229,12 +224,12 @@ module _ (l : Ledger) (j : Journal) (t t' : (Treatment → Bool) → ℕ → ℕ
       (record {
         banks = g .banks;
         mandates =
-            kept-noted (p .mandate) h (presentedOn p m) (notedPresented p (notedOf m)) (presented-number p m ∙ h .number)
+            kept-noted (p .mandate) h (presentedOn p m) (presentOf p (notedOf m)) (presented-number p m ∙ h .number)
             (noted-presented p m);
         collections =
             λ c.
             rw (add c)
-            (same-cond (eqb c (p .collection)) k (notedCollection j p (notedOf m)) (collectionOf l c) (j .collections c) (same-new p m)
+            (same-cond (eqb c (p .collection)) k (collectionNoted j p (notedOf m)) (collectionOf l c) (j .collections c) (same-new p m)
             (g .collections c));
         creditor-figures = g .creditor-figures;
         debtor-figures = g .debtor-figures;

@@ -28,10 +28,11 @@ use Rattle.model.specs.Lookups.{Known, mandateOf, collectionOf}
 use Rattle.model.specs.Lookups.Known.{unknown, known}
 use Rattle.model.specs.Checks.{isPresented, isSettled, settledOn}
 use Rattle.model.specs.Effects.{dated, keepCollection, stateAfter, treated, undone, effect}
-use Rattle.model.specs.Journal.{Journal, NotedCollection, noted, plus, withCollection, withFigures, notedSettled, note}
+use Rattle.model.specs.Journal.{Journal, NotedCollection, noted, plus, withCollection, notedSettled}
 use Rattle.model.specs.Promises.{isEnd, isUndo, isSettle}
 use Rattle.model.proofs.Laws.Views.{collectionOf-keep}
 use Rattle.model.proofs.Laws.Effects.{CollectionThere, effect-treat}
+use Rattle.model.proofs.Laws.Wordings.{withFigures, noteOf}
 use Rattle.model.proofs.Laws.Agree.{SameCollection, SameKnown, endsOf, undosOf, settlesOf, inKnown, Agrees}
 use Rattle.model.proofs.Laws.KeptMandates.{Counts}
 
@@ -175,11 +176,11 @@ module _ (l : Ledger) (j : Journal) (t t' : (Treatment → Bool) → ℕ → ℕ
 
   -- ---- event 6
 
-  note-settle : note j date (Treat n Settle) ≡ withFigures (withCollection j n (notedSettled (noted-there .value) date)) (noted-there .value) (settlement (noted-there .value .amount))
-  unfolding note
+  note-settle : noteOf j date (Treat n Settle) ≡ withFigures (withCollection j n (notedSettled (noted-there .value) date)) (noted-there .value) (settlement (noted-there .value .amount))
+  unfolding noteOf
   note-settle = rw (noted-there .is)
 
-  pub agrees-settle : h .collection .state ≡ Presented → Counts t t' (Treat n Settle) → Agrees (effect l date (Treat n Settle)) (note j date (Treat n Settle)) t'
+  pub agrees-settle : h .collection .state ≡ Presented → Counts t t' (Treat n Settle) → Agrees (effect l date (Treat n Settle)) (noteOf j date (Treat n Settle)) t'
   unfolding mandateOf collectionOf treated
   agrees-settle st cs =
       let k' = treated Settle date (h .collection) in
@@ -207,11 +208,11 @@ module _ (l : Ledger) (j : Journal) (t t' : (Treatment → Bool) → ℕ → ℕ
 
   -- ---- event 7
 
-  note-reject : note j date (Treat n Reject) ≡ j
-  unfolding note
+  note-reject : noteOf j date (Treat n Reject) ≡ j
+  unfolding noteOf
   note-reject = rw (noted-there .is)
 
-  pub agrees-reject : h .collection .state ≡ Presented → Counts t t' (Treat n Reject) → Agrees (effect l date (Treat n Reject)) (note j date (Treat n Reject)) t'
+  pub agrees-reject : h .collection .state ≡ Presented → Counts t t' (Treat n Reject) → Agrees (effect l date (Treat n Reject)) (noteOf j date (Treat n Reject)) t'
   unfolding mandateOf collectionOf treated notedSettled
   agrees-reject st cs =
       let k' = treated Reject date (h .collection) in
@@ -237,8 +238,8 @@ module _ (l : Ledger) (j : Journal) (t t' : (Treatment → Bool) → ℕ → ℕ
   -- ---- events 8, 9 and 10
 
   module _ (way : Way) (day : ℕ) (st : h .collection .state ≡ Settled day) (real : day ≢ 0) where
-    note-undo : note j date (Treat n (Undo way)) ≡ withFigures j (noted-there .value) (undone way (noted-there .value .amount) day date)
-    unfolding note
+    note-undo : noteOf j date (Treat n (Undo way)) ≡ withFigures j (noted-there .value) (undone way (noted-there .value .amount) day date)
+    unfolding noteOf
     note-undo =
         let e = noted-there .same .settled day st in
         rw (noted-there .is, e, ne-eqb day 0 real)
@@ -248,7 +249,7 @@ module _ (l : Ledger) (j : Journal) (t t' : (Treatment → Bool) → ℕ → ℕ
         ap (λ (s : State). undone way (h .collection .amount) (settledOn s) date) st
         ∙ ap (λ (a : ℕ). undone way a day date) (noted-there .same .amount)
 
-    pub agrees-undo : Counts t t' (Treat n (Undo way)) → Agrees (effect l date (Treat n (Undo way))) (note j date (Treat n (Undo way))) t'
+    pub agrees-undo : Counts t t' (Treat n (Undo way)) → Agrees (effect l date (Treat n (Undo way))) (noteOf j date (Treat n (Undo way))) t'
     unfolding mandateOf collectionOf treated notedSettled
     agrees-undo cs =
         let k' = treated (Undo way) date (h .collection) in

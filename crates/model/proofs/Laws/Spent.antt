@@ -1,5 +1,5 @@
--- How far the collections can have moved a position: each settled row by an amount, each undone one by an amount more and its compensation.
--- To cite: `spent`, `spent-limit`, `sum-treated`, `sum-added`. Assumes nothing.
+-- Laws of specs/Bounds: what the rows have moved, after one of them is written.
+-- To cite: `spent-limit`, `sum-treated`, `sum-added`. Assumes nothing.
 use mathlib.Core.Path.{_≡_, refl, ap, _∙_}
 use mathlib.Core.Logic.{⊎-elim, _≢_}
 use mathlib.Core.List.{List}
@@ -14,13 +14,10 @@ use Rattle.tables.specs.Rows.{rows, collectionAt, putCollection}
 use Rattle.tables.specs.declared.Collection.{Collection}
 use Rattle.tables.specs.declared.State.{State}
 use Rattle.tables.specs.declared.State.the-variants.{Presented, Rejected, Settled, Undone}
+use Rattle.model.specs.Bounds.{sumRows, moved, movedAt, spent}
 use Rattle.tables.proofs.Laws.Rows.{collectionAt-put-same, collectionAt-put-other}
 
 -- ---- a sum over rows
-
-unfoldable pub sumRows : (ℕ → ℕ) → ℕ → ℕ
-sumRows f zero = 0
-sumRows f (suc n) = sumRows f n + f n
 
 sum-same : (f g : ℕ → ℕ) (n : ℕ) → ((i : ℕ) → i < n → g i ≡ f i) → sumRows g n ≡ sumRows f n
 unfolding sumRows
@@ -43,23 +40,11 @@ sum-bound f m (suc n) h = let i = sum-bound f m n h in omega (arith, h n, suc-mu
 
 -- ---- what a row has moved at most
 
-abbrev pub moved : State → ℕ
-moved Presented = 0
-moved Rejected = 0
-moved (Settled day) = amountLimit
-moved (Undone day by) = rowMove
-
 moved-le : (s : State) → moved s ≤ rowMove
 moved-le Presented = omega arith
 moved-le Rejected = omega arith
 moved-le (Settled day) = omega arith
 moved-le (Undone day by) = omega arith
-
-abbrev pub movedAt : List ℕ → ℕ → ℕ
-movedAt cells row = moved (collectionAt cells row .state)
-
-unfoldable pub spent : Ledger → ℕ
-spent l = sumRows (movedAt (l .collections)) (l .collectionsUsed)
 
 pub spent-limit : (l : Ledger) → spent l ≤ l .collectionsUsed * rowMove
 unfolding spent

@@ -10,6 +10,8 @@ use lib.IntN.{ℤ}
 use lib.ListN.{length, getD, replicate}
 use borrow.Author.Tests.{le-leb}
 use Rattle.common.proofs.Tests.{never, not-true}
+use Rattle.calendar.specs.Gregorian.{inRange}
+use Rattle.calendar.proofs.Laws.Promises.{kept-due}
 use Rattle.events.specs.declared.Event.{Event}
 use Rattle.events.specs.declared.limits.Checked.{Checked}
 use Rattle.events.specs.declared.limits.Checked.the-variants as events
@@ -37,19 +39,21 @@ use Rattle.model.specs.declared.QueryAnswer.the-variants as queries
 use Rattle.model.specs.Actions.{Presentation, Treatment, Way, actionOf}
 use Rattle.model.specs.Actions.Action.{Collect, Treat}
 use Rattle.model.specs.Actions.Treatment.{Undo}
-use Rattle.model.specs.Deadlines.{keptDue, inTime, lapsedFor}
+use Rattle.model.specs.Deadlines.{keptDue, lastDay, lapseEnd, lapsedFor}
 use Rattle.model.specs.Lookups.{Known, ofKnown, mandateOf, collectionOf}
 use Rattle.model.specs.Lookups.Known.{unknown, known}
 use Rattle.model.specs.Checks.{standsLive, ruled}
 use Rattle.model.specs.Effects.{effect}
-use Rattle.model.specs.Step.{isAccepted, thenRuled, answer, afterAnswer, after, inQuery, figureOf, query, run, Entry, entry, history}
+use Rattle.model.specs.Step.{isAccepted, thenRuled, answer, afterAnswer, after, inQuery, figureOf, query, answered, run, Entry, entry, history}
 use Rattle.model.specs.Journal.{Journal, journalFrom, journal, figureIn}
-use Rattle.model.specs.Promises.{answered, sumTo, sumOf, isUndo, isEnd, isSettle, times, UndoneInTime, CollectedLive, Kept, Demand3, MandatesNotAsked}
-use Rattle.model.proofs.Laws.Sound.{sound-event, Passed, passed}
+use Rattle.model.specs.Promises.{sumTo, sumOf, isUndo, isEnd, isSettle, times, NotAfter, UndoneInTime, CollectedLive, Kept, Demand3, MandatesNotAsked}
+use Rattle.model.proofs.Laws.Sound.{Sound, sound-event, Passed, passed}
 use Rattle.model.proofs.Laws.Effects.{mandate-there, collection-there}
-use Rattle.model.proofs.Laws.Agree.{notedOf, notedKnown, endsOf, undosOf, settlesOf, inKnown, Agrees}
+use Rattle.model.proofs.Laws.Wordings.{notedOf, note-action}
+use Rattle.model.proofs.Laws.Agree.{notedKnown, endsOf, undosOf, settlesOf, inKnown, Agrees}
 use Rattle.model.proofs.Laws.KeptTreatments.{noted-there}
 use Rattle.model.proofs.Laws.Invariant.{Sane, sane-kept, undo-facts}
+use Rattle.model.proofs.Laws.Limits.{passed-limit, last-day-found, lapse-found}
 use Rattle.model.proofs.Laws.Lists.{journal-more, times-more, AllPast, past-at}
 use Rattle.model.proofs.Laws.Sums.{sumTo-same, sumTo-total}
 
@@ -103,7 +107,7 @@ unfolding Past countsOf
 past-accepted l h e s a =
     let p = accepted-passed l e (s .safe .fits) a in
     let o = sound-event e (p .0) in
-    rw (journal-more h (entry e true))
+    rw (journal-more h (entry e true), note-action (journal h) e (p .0))
     (sane-kept l (journal h) (countsOf h) (countsOf (h ++ (entry e true ∷ []))) (e .date) s (o .0) (actionOf e) (o .1) (p .1)
     (λ sort c. times-more sort c h (entry e true)))
 
@@ -178,29 +182,39 @@ module _ (l : Ledger) (h : List Entry) (s : Past l h) (date : ℕ) where
         settled-once = sane .agrees .settled c ∙ ap (inKnown settlesOf) (t .is) ∙ ap settlesOf (u .state);
         collection = n .value;
         is-noted = n .is;
-        in-time = ap (λ (d : ℕ). inTime way d date) (n .same .settled (u .day) (u .state)) ∙ u .in-time;
+        in-time =
+            subst (λ (d : ℕ). NotAfter date (lastDay way d)) (sym (n .same .settled (u .day) (u .state)))
+            (passed-limit date (last-day-found way (u .day) (u .real) .date) (lastDay way (u .day)) (last-day-found way (u .day) (u .real) .is) (u .in-time));
       }
 
-  collected-live : (p : Presentation) → Passed l date (Collect p) → CollectedLive h p
-  unfolding notedOf
-  collected-live p q =
+  collected-live : (p : Presentation) → inRange (p .requested) ≡ true → Passed l date (Collect p) → CollectedLive h p
+  unfolding notedOf keptDue
+  collected-live p r q =
       let t = mandate-there l (p .mandate) (sane .safe .fits) (q .there) in
+      let k = kept-due (p .requested) r in
+      let f = lapse-found (t .mandate .presented) (t .mandate .signed) (t .fits .presented-date) (t .fits .signed-date) in
+      let g = of-known (λ (m : Mandate). not (lapsedFor (keptDue (p .requested)) (m .presented) (m .signed))) (t .is) (q .lapse) in
       record {
         mandate = notedOf (t .mandate);
         is-noted = sym (sane .agrees .mandates (p .mandate)) ∙ ap notedKnown (t .is);
         is-live = stands-live (t .mandate .standing) (of-known (λ (m : Mandate). standsLive (m .standing)) (t .is) (q .live));
-        not-lapsed =
-            not-true
-            (of-known (λ (m : Mandate). not (lapsedFor (keptDue (p .requested)) (m .presented) (m .signed))) (t .is) (q .lapse));
+        due = k .date;
+        is-due = k .is;
+        not-lapsed = passed-limit (k .date) (f .date) (lapseEnd (t .mandate .presented) (t .mandate .signed)) (f .is) (rw (k .is) at g);
       }
 
 in-turn : (l : Ledger) (h : List Entry) (e : Event) → Past l h → InTurn h (last l e)
 unfolding last Past
 in-turn l h e s =
-    let pass : isAccepted (answer l e) ≡ true → Passed l (e .date) (actionOf e) = λ a. accepted-passed l e (s .safe .fits) (is-accepted (answer l e) a) .1 in
+    let pass : isAccepted (answer l e) ≡ true → (checked e ≡ events.Within) × Passed l (e .date) (actionOf e) =
+    λ a. accepted-passed l e (s .safe .fits) (is-accepted (answer l e) a)
+    in
     record {
-      undone = λ c way a i. undone-in-time l h s (e .date) c way (subst (Passed l (e .date)) i (pass a));
-      collected = λ p a i. collected-live l h s (e .date) p (subst (Passed l (e .date)) i (pass a));
+      undone = λ c way a i. undone-in-time l h s (e .date) c way (subst (Passed l (e .date)) i (pass a .1));
+      collected =
+          λ p a i.
+          collected-live l h s (e .date) p (subst Sound i (sound-event e (pass a .0) .1) .requested)
+          (subst (Passed l (e .date)) i (pass a .1));
     }
 
 -- ---- every list, from any ledger and history that agree

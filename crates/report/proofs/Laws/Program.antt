@@ -12,9 +12,8 @@ use Rattle.tables.specs.Ledger.{Ledger}
 use Rattle.tables.specs.Fitness.{fit}
 use Rattle.tables.specs.Opening.{opened}
 use Rattle.model.specs.declared.QueryAnswer.the-variants.{Figure, Refused}
-use Rattle.model.specs.Step.{after, inQuery, figureOf, query, run, Entry, history}
+use Rattle.model.specs.Step.{after, inQuery, figureOf, query, answered, run, Entry, history}
 use Rattle.model.specs.Journal.{Journal, journal, figureIn}
-use Rattle.model.specs.Promises.{answered}
 use Rattle.model.proofs.Laws.Theorem.{demand3}
 use Rattle.report.specs.Run.{toldPosition, toldFigures, toldPositions, toldJournal}
 use Rattle.report.specs.Lines.{answeredLines, eventsOf}

@@ -22,9 +22,9 @@ use Rattle.tables.specs.Ledger.{Ledger}
 use Rattle.tables.specs.Rows.{rows}
 use Rattle.tables.specs.Fitness.{fit}
 use Rattle.tables.proofs.Laws.Fitness.{fit-facts, compensation-facts}
-use Rattle.model.proofs.Laws.Spent.{sumRows, movedAt, spent}
-use Rattle.model.proofs.Laws.Bounds.{Bounded}
-use Rattle.model.proofs.Laws.Invariant.{Safe}
+use Rattle.model.specs.Bounds.{sumRows, movedAt, spent}
+use Rattle.model.specs.Bounds.{Bounded}
+use Rattle.model.specs.Bounds.{Safe}
 use Rattle.safety.specs.Safety.{withinAt, withinSpent, bounded, isSafe, between, allBetween}
 use Rattle.safety.proofs.Laws.Sums.{sum-small}
 

@@ -18,7 +18,8 @@ use Rattle.tables.specs.Limits.{stride}
 use Rattle.tables.specs.Records.{stateOf, collectionOf}
 use Rattle.tables.specs.Rows.{collectionAt}
 use Rattle.tables.specs.Ledger.{Ledger}
-use Rattle.model.proofs.Laws.Spent.{sumRows, moved, movedAt, spent, spent-limit}
+use Rattle.model.specs.Bounds.{sumRows, moved, movedAt, spent}
+use Rattle.model.proofs.Laws.Spent.{spent-limit}
 use Rattle.safety.specs.Safety.{tagMoved}
 
 -- however a row was undone

@@ -11,7 +11,7 @@ use lib.IntN.{pos, negℤ, _-ℤ_}
 use Rattle.positions.proofs.Laws.Integers.{size-fits, bits-small, minus-small, minus-small-fits}
 use Rattle.tables.specs.Fitness.{fit}
 use Rattle.tables.specs.Ledger.{Ledger, ledger}
-use Rattle.model.proofs.Laws.Spent.{spent}
+use Rattle.model.specs.Bounds.{spent}
 use Rattle.safety.specs.Safety.{between}
 use Rattle.safety.proofs.Laws.Safety.{unfit-unsafe, fit-bounded, bounded-tested, fit-rows, spent-small, spent-is}
 use Rattle.safety.proofs.is_safe.Statement.{statement}

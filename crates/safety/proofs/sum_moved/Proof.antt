@@ -5,7 +5,7 @@ use native.Mathlib.Omega.{arith}
 use borrow.Author.Needs.{needs}
 use Rattle.common.specs.Limits.{collectionRowLimit}
 use Rattle.tables.specs.Rows.{rows}
-use Rattle.model.proofs.Laws.Spent.{sumRows, movedAt}
+use Rattle.model.specs.Bounds.{sumRows, movedAt}
 use Rattle.safety.proofs.Laws.Sums.{sum-step, sum-small}
 use Rattle.safety.proofs.sum_moved.Statement.{statement}
 use Rattle.safety.proofs.sum_moved.Tie as tie

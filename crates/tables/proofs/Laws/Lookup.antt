@@ -139,15 +139,25 @@ module _ (cells : List ℕ) (number : ℕ) where
       ∷ eqb (getD cells (row * stride + 3 * stride) 0) number
       ∷ []
 
+  abbrev fourRows : ℕ → List Bool
+  fourRows row = numberIs cells number row ∷ numberIs cells number (row + 1) ∷ numberIs cells number (row + 2) ∷ numberIs cells number (row + 3) ∷ []
+
   place : (row k : ℕ) → (row + k) * stride ≡ row * stride + k * stride
   place row k = omega arith
 
-  pub four-miss : (row : ℕ) → anyOf (fourTests row) ≡ false → (k : ℕ) → k < 4 → numberIs cells number (row + k) ≡ false
-  four-miss row e zero h = rw (add-zero row) (anyOf-at (fourTests row) 0 e)
-  four-miss row e (suc zero) h = rw (place row 1) (anyOf-at (fourTests row) 1 e)
-  four-miss row e (suc (suc zero)) h = rw (place row 2) (anyOf-at (fourTests row) 2 e)
-  four-miss row e (suc (suc (suc zero))) h = rw (place row 3) (anyOf-at (fourTests row) 3 e)
-  four-miss row e (suc (suc (suc (suc k)))) h = absurd (omega arith)
+  -- whether one of the four rows from a row on has the number
+  abbrev fourHave : ℕ → Bool
+  fourHave row = ((numberIs cells number row || numberIs cells number (row + 1)) || numberIs cells number (row + 2)) || numberIs cells number (row + 3)
+
+  pub four-have : (row : ℕ) → anyOf (fourTests row) ≡ fourHave row
+  four-have row = rw (place row 1, place row 2, place row 3)
+
+  pub four-miss : (row : ℕ) (r : Bool) → r ≡ fourHave row → r ≡ false → (k : ℕ) → k < 4 → numberIs cells number (row + k) ≡ false
+  four-miss row r p e zero h = rw (add-zero row) (anyOf-at (fourRows row) 0 (sym p ∙ e))
+  four-miss row r p e (suc zero) h = anyOf-at (fourRows row) 1 (sym p ∙ e)
+  four-miss row r p e (suc (suc zero)) h = anyOf-at (fourRows row) 2 (sym p ∙ e)
+  four-miss row r p e (suc (suc (suc zero))) h = anyOf-at (fourRows row) 3 (sym p ∙ e)
+  four-miss row r p e (suc (suc (suc (suc k)))) h = absurd (omega arith)
 
   -- rows in a line without the number: the walk goes on behind them
   pub walk-past :

@@ -8,7 +8,7 @@ use Rattle.common.proofs.Tests.{not-true, not-false}
 use Rattle.model.specs.declared.QueryAnswer.the-variants.{Figure}
 use Rattle.tables.specs.Fitness.{fit}
 use Rattle.tables.specs.Ledger.{Ledger, ledger}
-use Rattle.book.proofs.Laws.Queries.{query-unfit, query-outside, query-figure}
+use Rattle.book.proofs.Laws.Queries.{queried-unfit, queried-outside, queried-figure}
 use borrow.Author.Needs.{needs}
 use Rattle.book.proofs.query.position.Statement.{statement}
 use Rattle.book.proofs.query.position.Tie as tie
@@ -31,7 +31,7 @@ is-fit-requires : tie.Need-is-fit-requires
 is-fit-requires c κs = search needs
 
 returns : tie.Need-returns
-returns c = sym (query-unfit (book (c .before .before .before .before .before)) _ _ (sym (c .before .is-fit .ensures) ∙ not-true (c .if1 .taken)))
+returns c = queried-unfit (book (c .before .before .before .before .before)) _ _ (sym (c .before .is-fit .ensures) ∙ not-true (c .if1 .taken))
 
 in-query-requires : tie.Need-in-query-requires
 in-query-requires c κs = search needs
@@ -40,10 +40,9 @@ returns-2 : tie.Need-returns-2
 returns-2 c =
     let e = c .before .before in
     let s = e .before .before .before .before .before in
-    sym
-    (query-outside (book s) (s .args .kind) (s .args .number)
+    queried-outside (book s) (s .args .kind) (s .args .number)
     (memory-fit e)
-    (sym (c .before .in-query .ensures) ∙ not-true (c .if2 .taken)))
+    (sym (c .before .in-query .ensures) ∙ not-true (c .if2 .taken))
 
 figure-requires : tie.Need-figure-requires
 figure-requires c κs = search needs
@@ -52,13 +51,11 @@ returns-3 : tie.Need-returns-3
 returns-3 c =
     let e = c .before .before .before in
     let s = e .before .before .before .before .before in
-    ap Figure
+    queried-figure (book s) (s .args .kind) (s .args .number) _
     (toZ-ofZ {w = w64} (record { sfits = c .figure .ok })
     ∙ c .figure .ensures (s .args .mandates .now) (s .args .collections .now) (s .args .creditors .now))
-    ∙ sym
-    (query-figure (book s) (s .args .kind) (s .args .number)
     (memory-fit e)
-    (sym (c .before .before .in-query .ensures) ∙ not-false (c .before .if2 .left)))
+    (sym (c .before .before .in-query .ensures) ∙ not-false (c .before .if2 .left))
 
 pub position-spec : {M : Type 1} → statement M
 position-spec =

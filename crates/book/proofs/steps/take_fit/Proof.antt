@@ -18,12 +18,12 @@ enum-told c = search needs
 
 act-requires : tie.Need-act-requires
 act-requires c κs = (
-  record { is-fit = c .before .before .before .before .before .before .before .before .before .before .before .before .pre; is-within = sym (c .before .before .before .before .before .before .before .before .check .ensures) ∙ c .before .before .before .before .before .before .enum-told .given .1 },
+  record { is-fit = c .before .before .before .before .before .before .before .before .before .before .before .before .pre; is-within = sym (c .before .before .before .before .before .before .before .before .check .ensures .0) ∙ c .before .before .before .before .before .before .enum-told .given .1 },
   record { mandate = lookup-since-first _ _ _; collection = lookup-since-first _ _ _ },
 )
 
 returns : tie.Need-returns
-returns c = taken-refused _ _ _ _ (c .before .before .before .before .before .before .before .pre) (sym (c .before .before .before .check .ensures) ∙ c .before .r .given .1)
+returns c = taken-refused _ _ _ _ (c .before .before .before .before .before .before .before .pre) (sym (c .before .before .before .check .ensures .0) ∙ c .before .r .given .1)
 
 same-length : tie.Need-same-length
 same-length c = search needs
@@ -44,7 +44,7 @@ same-length-6 : tie.Need-same-length-6
 same-length-6 c = search needs
 
 returns-2 : tie.Need-returns-2
-returns-2 c = taken-done _ _ _ _ (c .before .before .before .before .before .before .before .before .before .before .before .before .before .before .before .before .before .before .before .before .before .before .pre) (sym (c .before .before .before .before .before .before .before .before .before .before .before .before .before .before .before .before .before .before .check .ensures) ∙ c .before .before .before .before .before .before .before .before .before .before .before .before .before .before .before .before .enum-told .given .1) (c .before .before .before .before .before .before .before .before .before .act .ensures)
+returns-2 c = taken-done _ _ _ _ (c .before .before .before .before .before .before .before .before .before .before .before .before .before .before .before .before .before .before .before .before .before .before .pre) (sym (c .before .before .before .before .before .before .before .before .before .before .before .before .before .before .before .before .before .before .check .ensures .0) ∙ c .before .before .before .before .before .before .before .before .before .before .before .before .before .before .before .before .enum-told .given .1) (c .before .before .before .before .before .before .before .before .before .act .ensures)
 
 pub take-fit-spec : {M : Type 1} → statement M
 take-fit-spec =

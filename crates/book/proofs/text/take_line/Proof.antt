@@ -7,9 +7,6 @@ use borrow.Author.Needs.{needs}
 use Rattle.book.proofs.text.take_line.Statement.{statement}
 use Rattle.book.proofs.text.take_line.Tie as tie
 
-slice-aggregate-read-cells : tie.Need-slice-aggregate-read-cells
-slice-aggregate-read-cells c = search needs
-
 read-cells-requires : tie.Need-read-cells-requires
 read-cells-requires c κs = search needs
 
@@ -19,17 +16,22 @@ enum-known-r c = search needs
 enum-told : tie.Need-enum-told
 enum-told c = search needs
 
-slice-aggregate-event-at : tie.Need-slice-aggregate-event-at
-slice-aggregate-event-at c = search needs
-
-event-at-requires : tie.Need-event-at-requires
-event-at-requires c κs = search needs
+event-in-requires : tie.Need-event-in-requires
+event-in-requires c κs = search needs
 
 take-sound-requires : tie.Need-take-sound-requires
-take-sound-requires c κs = record { tested = c .before .before .before .before .before .before .before .before .before .before .before .before .before .before .before .before .before .pre; is-within = line-event (c .before .before .before .before .before .before .before .before .before .before .before .before .before .before .before .before .before .args .line .now) _ _ _ _ (c .before .before .before .before .before .before .before .before .before .before .before .read-cells .ensures .0) (c .before .before .before .before .before .before .before .before .before .before .before .read-cells .ensures .1) (c .before .before .before .before .before .before .before .before .enum-told .given .1) (c .before .before .before .before .before .before .event-at .ensures) .1 }
+take-sound-requires c κs =
+    let s = c .before .before .before .before .before .before .before .before .before .before .before .before .before .before .before .before in
+    let r = c .before .before .before .before .before .before .before .before .before .before in
+    record {
+      tested = s .pre;
+      is-within =
+          line-event (s .args .line .now) _ _ _ _ (r .read-cells .ensures .0) (r .read-cells .ensures .1 .0)
+          (c .before .before .before .before .before .before .before .before .enum-told .given .1) (c .before .before .before .before .before .before .event-in .ensures) .1;
+    }
 
 returns : tie.Need-returns
-returns c = line-refused _ _ _ _ (cells-refused _ _ _ refl (sym (c .before .before .before .before .read-cells .ensures .0) ∙ c .before .r .given .1) .0)
+returns c = line-refused _ _ _ _ (cells-refused _ _ (sym (c .before .before .before .read-cells .ensures .0) ∙ c .before .r .given .1))
 
 same-length : tie.Need-same-length
 same-length c = search needs
@@ -50,18 +52,22 @@ same-length-6 : tie.Need-same-length-6
 same-length-6 c = search needs
 
 returns-2 : tie.Need-returns-2
-returns-2 c = line-taken _ _ _ _ _ (line-event (c .before .before .before .before .before .before .before .before .before .before .before .before .before .before .before .before .before .before .before .before .before .before .before .before .before .before .before .args .line .now) _ _ _ _ (c .before .before .before .before .before .before .before .before .before .before .before .before .before .before .before .before .before .before .before .before .before .read-cells .ensures .0) (c .before .before .before .before .before .before .before .before .before .before .before .before .before .before .before .before .before .before .before .before .before .read-cells .ensures .1) (c .before .before .before .before .before .before .before .before .before .before .before .before .before .before .before .before .before .before .enum-told .given .1) (c .before .before .before .before .before .before .before .before .before .before .before .before .before .before .before .before .event-at .ensures) .0) (c .before .before .before .before .before .before .before .before .before .take-sound .ensures)
+returns-2 c =
+    let s = c .before .before .before .before .before .before .before .before .before .before .before .before .before .before .before .before .before .before .before .before .before .before .before .before .before .before in
+    let r = c .before .before .before .before .before .before .before .before .before .before .before .before .before .before .before .before .before .before .before .before in
+    line-taken _ _ _ _ _
+    (line-event (s .args .line .now) _ _ _ _ (r .read-cells .ensures .0) (r .read-cells .ensures .1 .0)
+    (c .before .before .before .before .before .before .before .before .before .before .before .before .before .before .before .before .before .before .enum-told .given .1) (c .before .before .before .before .before .before .before .before .before .before .before .before .before .before .before .before .event-in .ensures) .0)
+    (c .before .before .before .before .before .before .before .before .before .take-sound .ensures)
 
 pub take-line-spec : {M : Type 1} → statement M
 take-line-spec =
     tie.close
     (tie.spec
-    slice-aggregate-read-cells
     read-cells-requires
     enum-known-r
     enum-told
-    slice-aggregate-event-at
-    event-at-requires
+    event-in-requires
     take-sound-requires
     returns
     same-length

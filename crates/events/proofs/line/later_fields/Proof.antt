@@ -215,7 +215,7 @@ nine c = start5 (c .before) .pre .0 .1
 -- the answer of the line is that of its event
 answer : (c : tie.After-check)
     → taken (readFields widths 0 (line5 (c .before))) ≡ answerOf (eventOf (values c)) (c .check .result)
-answer c = ap taken (after5 (c .before)) ∙ ap (answerOf (eventOf (values c))) (sym (c .check .ensures))
+answer c = ap taken (after5 (c .before)) ∙ ap (answerOf (eventOf (values c))) (sym (c .check .ensures .0))
 
 -- there is a cell for the next value
 cell : (c : tie.After-check) (n : ℕ) → n < length widths → n < length (stored (cells c) 0 (take n (values c)))

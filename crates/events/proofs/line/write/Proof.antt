@@ -1,7 +1,8 @@
 -- `write` goes by the room and then by the answer of `check`.
 -- Assumes nothing.
 use Rattle.events.proofs.Laws.Line.{writeAnswer-short, writeAnswer-checked, bytesAfter-refused, bytesAfter-written}
-use Rattle.events.specs.Line.{writtenOf}
+use Rattle.events.specs.Line.{writtenOf, writeNumber}
+use Rattle.events.proofs.Laws.Numbers.{writer-number}
 use mathlib.Core.Path.{sym, ap, _∙_}
 use borrow.Author.Needs.{needs}
 use Rattle.events.proofs.line.write.Statement.{statement}
@@ -11,7 +12,7 @@ returns : tie.Need-returns
 returns c =
     let s = c .before .before .args in
     let p = writeAnswer-short (s .e) (s .out .now) (c .if1 .taken) in
-    (sym p, sym (bytesAfter-refused _ _ _ p))
+    (sym p, (sym (bytesAfter-refused _ _ _ p), ap writeNumber (sym p) ∙ writer-number (s .e) (s .out .now)))
 
 check-requires : tie.Need-check-requires
 check-requires c κs = search needs
@@ -30,8 +31,8 @@ returns-2 c =
     let s = c .before .before .before .before .before .before .args in
     let p =
     writeAnswer-checked (s .e) (s .out .now) (c .before .before .before .before .if1 .left)
-    ∙ ap writtenOf (sym (c .before .before .before .check .ensures) ∙ c .before .r .given .1) in
-    (sym p, sym (bytesAfter-refused _ _ _ p))
+    ∙ ap writtenOf (sym (c .before .before .before .check .ensures .0) ∙ c .before .r .given .1) in
+    (sym p, (sym (bytesAfter-refused _ _ _ p), ap writeNumber (sym p) ∙ writer-number (s .e) (s .out .now)))
 
 same-length : tie.Need-same-length
 same-length c = search needs
@@ -41,8 +42,8 @@ returns-3 c =
     let s = c .before .before .before .before .before .before .before .before .before .args in
     let p =
     writeAnswer-checked (s .e) (s .out .now) (c .before .before .before .before .before .before .before .if1 .left)
-    ∙ ap writtenOf (sym (c .before .before .before .before .before .before .check .ensures) ∙ c .before .before .before .before .enum-told .given .1) in
-    (sym p, c .before .before .put-line .ensures ∙ sym (bytesAfter-written _ _ p))
+    ∙ ap writtenOf (sym (c .before .before .before .before .before .before .check .ensures .0) ∙ c .before .before .before .before .enum-told .given .1) in
+    (sym p, (c .before .before .put-line .ensures ∙ sym (bytesAfter-written _ _ p), ap writeNumber (sym p) ∙ writer-number (s .e) (s .out .now)))
 
 pub write-spec : {M : Type 1} → statement M
 write-spec =

@@ -1,6 +1,6 @@
 -- `tables::lookup::skip` meets its contract. The loop: the walk from row i on has the answer of the walk from the first row on.
 -- Assumes nothing.
-use Rattle.tables.proofs.Laws.Lookup.{walk-past-eight}
+use Rattle.tables.proofs.Laws.Lookup.{four-miss, walk-past-eight}
 use Rattle.tables.specs.Lookup.{numberIs}
 use Rattle.tables.specs.declared.Found.the-variants.{At, Nothing}
 use Rattle.common.specs.Walk.{firstFrom}
@@ -47,8 +47,9 @@ loop-again c =
     let a = l .before .before .args in (
       search needs,
       sym
-          (walk-past-eight (a .cells .now) (a .number) _ _ (l .loop .i) (a .n) (search needs) (c .if1 .left) (c .before .before .in-four .ensures)
-          (c .before .in-four2 .ensures))
+          (walk-past-eight (a .cells .now) (a .number) _ _ (l .loop .i) (a .n) (search needs) (c .if1 .left)
+          (four-miss (a .cells .now) (a .number) _ _ (c .before .before .in-four .ensures))
+          (four-miss (a .cells .now) (a .number) _ _ (c .before .in-four2 .ensures)))
           ∙ l .loop .inv .1,
     )
 

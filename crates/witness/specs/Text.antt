@@ -1,0 +1,40 @@
+-- The bytes of printed lines, how they are read, and what the program writes for an input. Document 01, "The text line".
+-- Assumes nothing.
+use mathlib.Core.List.{List, [], _∷_, _++_}
+use Prim.Native.Nat.{ℕ}
+use Prim.Native.Char.{code}
+use Prim.Native.String.{String, [] as noText, _∷_ as _then_}
+use Rattle.events.specs.declared.Event.{Event}
+use Rattle.events.specs.declared.line.LineAnswer.{LineAnswer}
+use Rattle.events.specs.declared.line.LineAnswer.the-variants.{Taken}
+use Rattle.events.specs.Line.{lineEnd, readLine}
+use Rattle.tables.specs.Ledger.{Ledger}
+use Rattle.report.specs.Run.{runAt, takeText, toldText, endText, toldEnd, toldPositions}
+
+-- a byte for each character, of those below 128
+abbrev pub bytesOf : String → List ℕ
+bytesOf noText = []
+bytesOf (c then s) = code c ∷ bytesOf s
+
+abbrev pub lineOf : String → List ℕ
+lineOf s = bytesOf s ++ (lineEnd ∷ [])
+
+abbrev pub textOf : List String → List ℕ
+textOf [] = []
+textOf (s ∷ rest) = lineOf s ++ textOf rest
+
+-- what the reader makes of each line
+abbrev pub readOf : List String → List LineAnswer
+readOf [] = []
+readOf (s ∷ rest) = readLine (lineOf s) ∷ readOf rest
+
+abbrev pub takenOf : List Event → List LineAnswer
+takenOf [] = []
+takenOf (e ∷ es) = Taken e ∷ takenOf es
+
+-- an answer for each line, for one without its end too, and then the positions
+abbrev pub written : Ledger → List ℕ → List ℕ
+written l text =
+    toldText (runAt l 0 []) text
+    ++ toldEnd (takeText (runAt l 0 []) text)
+    ++ toldPositions (endText (takeText (runAt l 0 []) text) .book)
