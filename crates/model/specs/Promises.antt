@@ -9,7 +9,7 @@ use lib.IntN.{ℤ, pos, _+ℤ_}
 use lib.ListN.{length, getD}
 use Rattle.calendar.specs.Gregorian.{inRange}
 use Rattle.calendar.specs.Target.{firstBusinessDay, lastBusinessDayBefore}
-use Rattle.calendar.specs.Periods.{daysAfter}
+use Rattle.calendar.specs.Periods.{daysAfter, businessDaysAfter, monthsAfter, andThen}
 use Rattle.calendar.specs.declared.DateAnswer.{DateAnswer}
 use Rattle.calendar.specs.declared.DateAnswer.the-variants.{Date}
 use Rattle.events.specs.declared.Event.{Event}
@@ -24,7 +24,8 @@ use Rattle.model.specs.declared.QueryAnswer.the-variants.{Figure}
 use Rattle.model.specs.Actions.{Action, Presentation, Treatment, Way, actionOf}
 use Rattle.model.specs.Actions.Action.{AddCreditor, AddMandate, ChangeMandate, Collect, Treat}
 use Rattle.model.specs.Actions.Treatment.{Settle, Reject, Undo}
-use Rattle.model.specs.Deadlines.{keptDue, timely, lastDay, lapseEnd}
+use Rattle.model.specs.Actions.Way.{ByReturn, ByRefund, ByReversal}
+use Rattle.model.specs.Deadlines.{keptDue, timely}
 use Rattle.model.specs.Lookups.Known.{known}
 use Rattle.model.specs.Checks.{ruled}
 use Rattle.model.specs.Step.{answerNumber, answer, eventNumber, after, inQuery, figureOf, query, queryNumber, answered, run, Entry, history}
@@ -70,7 +71,20 @@ unfoldable pub times : (Treatment → Bool) → ℕ → List Entry → ℕ
 times sort c [] = 0
 times sort c (x ∷ xs) = cond (x .accepted && treats sort c (actionOf (x .event))) 1 0 + times sort c xs
 
--- ---- limits
+-- ---- limits, said once more: what an error of specs/Deadlines is to be caught by
+
+-- the last day of an undoing, from S
+abbrev pub lastDayFrom : Way → ℕ → DateAnswer
+lastDayFrom ByReturn settled = businessDaysAfter (record { 0 = 5 }) settled
+lastDayFrom (ByRefund rate code) settled =
+    cond (eqb code 0)
+    (andThen (daysAfter (record { 0 = 56 }) settled) (businessDaysAfter (record { 0 = 2 })))
+    (andThen (andThen (monthsAfter (record { 0 = 13 }) settled) (daysAfter (record { 0 = 30 }))) (businessDaysAfter (record { 0 = 4 })))
+lastDayFrom ByReversal settled = businessDaysAfter (record { 0 = 5 }) settled
+
+-- the day until which a mandate is not lapsed, from the due last presented or from signing
+abbrev pub lapseFrom : NotedMandate → DateAnswer
+lapseFrom m = monthsAfter (record { 0 = 36 }) (cond (eqb (m .presented) 0) (m .signed) (m .presented))
 
 -- the limit is a date of the calendar, and the date is not after it
 pub record NotAfter (date : ℕ) (limit : DateAnswer) : Type 0 where
@@ -100,7 +114,7 @@ pub record UndoneInTime (before : List Entry) (c date : ℕ) (way : Way) : Type 
   pub settled-once : times isSettle c before ≡ 1
   pub collection : NotedCollection
   pub is-noted : journal before .collections c ≡ known collection
-  pub in-time : NotAfter date (lastDay way (collection .settled))
+  pub in-time : NotAfter date (lastDayFrom way (collection .settled))
 
 -- its collect: the mandate was neither closed nor cancelled, nor lapsed for it
 pub record CollectedLive (before : List Entry) (p : Presentation) : Type 0 where
@@ -109,7 +123,7 @@ pub record CollectedLive (before : List Entry) (p : Presentation) : Type 0 where
   pub is-live : mandate .standing ≡ Live
   pub due : ℕ
   pub is-due : firstBusinessDay (p .requested) ≡ Date due
-  pub not-lapsed : NotAfter due (lapseEnd (mandate .presented) (mandate .signed))
+  pub not-lapsed : NotAfter due (lapseFrom mandate)
 
 -- ---- the claim about a list of events given to a ledger
 

@@ -1,5 +1,5 @@
 -- The limits of specs/Deadlines are dates, from every date in range. To cite: `passed-limit`, `at-most-limit` (a test that passed names its limit),
--- `last-day-found`, `lapse-found`, `timing`. Assumes nothing.
+-- `last-day-found`, `last-day-from`, `lapse-found`, `timing`. Assumes nothing.
 use mathlib.Core.Path.{_≡_, refl, sym, ap, _∙_}
 use mathlib.Core.Bool.{Bool, true, false, cond, not, _&&_}
 use mathlib.Core.Logic.{⊎-elim}
@@ -15,7 +15,7 @@ use Rattle.calendar.specs.Periods.{daysAfter, monthsAfter, periodEnd, isAfter}
 use Rattle.calendar.specs.declared.DateAnswer.{DateAnswer}
 use Rattle.calendar.specs.declared.DateAnswer.the-variants.{Date, NoDate}
 use Rattle.calendar.proofs.Laws.Gregorian.{range-facts, date-valid}
-use Rattle.calendar.proofs.Laws.DayNumber.{dayNumber-lt}
+use Rattle.calendar.proofs.Laws.DayNumber.{dayNumber-lt, dayNumber-reflects-le}
 use Rattle.calendar.proofs.Laws.Answers.{DateAfter, dateOf-is}
 use Rattle.calendar.proofs.Laws.BusinessDays.{lastOpen-exists}
 use Rattle.calendar.proofs.Laws.Periods.{monthCount-is}
@@ -26,7 +26,7 @@ use Rattle.tables.specs.Fitness.{noneOrDate}
 use Rattle.model.specs.Actions.{Way}
 use Rattle.model.specs.Actions.Way.{ByReturn, ByRefund, ByReversal}
 use Rattle.model.specs.Deadlines.{core, periodOf, dateIn, keptDue, timely, lastDay, lapseEnd}
-use Rattle.model.specs.Promises.{NotAfter, InGoodTime, PassesInGoodTime, Timing}
+use Rattle.model.specs.Promises.{lastDayFrom, NotAfter, InGoodTime, PassesInGoodTime, Timing}
 
 -- ---- a test that passed, and its limit
 
@@ -56,6 +56,37 @@ longest-way ByReversal = omega arith
 pub last-day-found : (way : Way) (settled : ℕ) → inRange settled ≡ true → DateAfter settled (lastDay way settled) (longest (periodOf core way))
 unfolding lastDay
 last-day-found way settled r = range-period-end (periodOf core way) settled r (omega (arith, longest-way way))
+
+-- no months and no days after a date is the date
+same-date : (x : ℕ) (a : DateAnswer) → isDate x ≡ true → DateAfter x a 0 → a ≡ Date x
+same-date x a h d =
+    let le = dayNumber-reflects-le (d .date) x (d .is-date) h (omega (arith, d .near)) in
+    let e : d .date ≡ x = omega (arith, d .from) in
+    d .is ∙ ap Date e
+
+module _ (x : ℕ) (r : inRange x ≡ true) where
+  no-months : monthsAfter (record { 0 = 0 }) x ≡ Date x
+  no-months =
+      let f = range-facts x r in
+      let v = date-valid x (f .is-date) in
+      let e = monthCount-is 0 x in
+      same-date x _ (f .is-date) (months-after (record { 0 = 0 }) x (f .is-date) (omega (arith, f .to)))
+
+  no-days : daysAfter (record { 0 = 0 }) x ≡ Date x
+  no-days =
+      let f = range-facts x r in
+      same-date x _ (f .is-date) (days-after (record { 0 = 0 }) x (f .is-date) (omega (arith, range-days x r .1)))
+
+-- the last day as the promises word it
+pub last-day-from : (way : Way) (settled : ℕ) → inRange settled ≡ true → lastDay way settled ≡ lastDayFrom way settled
+unfolding lastDay periodEnd
+last-day-from ByReturn settled r = rw (no-months settled r, no-days settled r)
+last-day-from (ByRefund rate code) settled r = by-code (eqb code 0) refl
+  where
+    by-code : (b : Bool) → eqb code 0 ≡ b → lastDay (ByRefund rate code) settled ≡ lastDayFrom (ByRefund rate code) settled
+    by-code true e = rw (e, no-months settled r)
+    by-code false e = rw e
+last-day-from ByReversal settled r = rw (no-months settled r, no-days settled r)
 
 -- ---- lapse
 

@@ -11,6 +11,8 @@ use lib.ListN.{length, getD, replicate}
 use borrow.Author.Tests.{le-leb}
 use Rattle.common.proofs.Tests.{never, not-true}
 use Rattle.calendar.specs.Gregorian.{inRange}
+use Rattle.calendar.specs.Periods.{isAfter}
+use Rattle.calendar.specs.declared.DateAnswer.{DateAnswer}
 use Rattle.calendar.proofs.Laws.Promises.{kept-due}
 use Rattle.events.specs.declared.Event.{Event}
 use Rattle.events.specs.declared.limits.Checked.{Checked}
@@ -39,21 +41,21 @@ use Rattle.model.specs.declared.QueryAnswer.the-variants as queries
 use Rattle.model.specs.Actions.{Presentation, Treatment, Way, actionOf}
 use Rattle.model.specs.Actions.Action.{Collect, Treat}
 use Rattle.model.specs.Actions.Treatment.{Undo}
-use Rattle.model.specs.Deadlines.{keptDue, lastDay, lapseEnd, lapsedFor}
+use Rattle.model.specs.Deadlines.{keptDue, lapseEnd, lapsedFor}
 use Rattle.model.specs.Lookups.{Known, ofKnown, mandateOf, collectionOf}
 use Rattle.model.specs.Lookups.Known.{unknown, known}
 use Rattle.model.specs.Checks.{standsLive, ruled}
 use Rattle.model.specs.Effects.{effect}
 use Rattle.model.specs.Step.{isAccepted, thenRuled, answer, afterAnswer, after, inQuery, figureOf, query, answered, run, Entry, entry, history}
 use Rattle.model.specs.Journal.{Journal, journalFrom, journal, figureIn}
-use Rattle.model.specs.Promises.{sumTo, sumOf, isUndo, isEnd, isSettle, times, NotAfter, UndoneInTime, CollectedLive, Kept, Demand3, MandatesNotAsked}
+use Rattle.model.specs.Promises.{sumTo, sumOf, isUndo, isEnd, isSettle, times, lastDayFrom, lapseFrom, NotAfter, UndoneInTime, CollectedLive, Kept, Demand3, MandatesNotAsked}
 use Rattle.model.proofs.Laws.Sound.{Sound, sound-event, Passed, passed}
 use Rattle.model.proofs.Laws.Effects.{mandate-there, collection-there}
 use Rattle.model.proofs.Laws.Wordings.{notedOf, note-action}
 use Rattle.model.proofs.Laws.Agree.{notedKnown, endsOf, undosOf, settlesOf, inKnown, Agrees}
 use Rattle.model.proofs.Laws.KeptTreatments.{noted-there}
 use Rattle.model.proofs.Laws.Invariant.{Sane, sane-kept, undo-facts}
-use Rattle.model.proofs.Laws.Limits.{passed-limit, last-day-found, lapse-found}
+use Rattle.model.proofs.Laws.Limits.{passed-limit, last-day-found, last-day-from, lapse-found}
 use Rattle.model.proofs.Laws.Lists.{journal-more, times-more, AllPast, past-at}
 use Rattle.model.proofs.Laws.Sums.{sumTo-same, sumTo-total}
 
@@ -177,18 +179,20 @@ module _ (l : Ledger) (h : List Entry) (s : Past l h) (date : ℕ) where
   undone-in-time c way p =
       let t = collection-there l c (sane .safe .fits) (p .there) in
       let u = undo-facts l c date way t p in
+      let f = last-day-found way (u .day) (u .real) in
+      let e = last-day-from way (u .day) (u .real) in
       let n = noted-there l (journal h) (countsOf h) (countsOf h) date (sane .agrees) (fit-facts l (sane .safe .fits) .sizes) c t in
       record {
         settled-once = sane .agrees .settled c ∙ ap (inKnown settlesOf) (t .is) ∙ ap settlesOf (u .state);
         collection = n .value;
         is-noted = n .is;
         in-time =
-            subst (λ (d : ℕ). NotAfter date (lastDay way d)) (sym (n .same .settled (u .day) (u .state)))
-            (passed-limit date (last-day-found way (u .day) (u .real) .date) (lastDay way (u .day)) (last-day-found way (u .day) (u .real) .is) (u .in-time));
+            subst (λ (d : ℕ). NotAfter date (lastDayFrom way d)) (sym (n .same .settled (u .day) (u .state)))
+            (passed-limit date (f .date) (lastDayFrom way (u .day)) (sym e ∙ f .is) (subst (λ (a : DateAnswer). not (isAfter date a) ≡ true) e (u .in-time)));
       }
 
   collected-live : (p : Presentation) → inRange (p .requested) ≡ true → Passed l date (Collect p) → CollectedLive h p
-  unfolding notedOf keptDue
+  unfolding notedOf keptDue lapseEnd
   collected-live p r q =
       let t = mandate-there l (p .mandate) (sane .safe .fits) (q .there) in
       let k = kept-due (p .requested) r in
@@ -200,7 +204,7 @@ module _ (l : Ledger) (h : List Entry) (s : Past l h) (date : ℕ) where
         is-live = stands-live (t .mandate .standing) (of-known (λ (m : Mandate). standsLive (m .standing)) (t .is) (q .live));
         due = k .date;
         is-due = k .is;
-        not-lapsed = passed-limit (k .date) (f .date) (lapseEnd (t .mandate .presented) (t .mandate .signed)) (f .is) (rw (k .is) at g);
+        not-lapsed = passed-limit (k .date) (f .date) (lapseFrom (notedOf (t .mandate))) (f .is) (rw (k .is) at g);
       }
 
 in-turn : (l : Ledger) (h : List Entry) (e : Event) → Past l h → InTurn h (last l e)
