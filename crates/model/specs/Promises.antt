@@ -1,5 +1,6 @@
 -- Demand 3: what is promised of every list of events, as one claim about the whole list. `Demand3` is the statement;
--- `Kept` has its parts, in the order in which they are demanded. proofs/Laws/Theorem has the proof. Assumes nothing.
+-- `Kept` has its parts, in the order in which they are demanded. proofs/Laws/Theorem has the proof.
+-- Then what is promised of one call: `Timing`, `MandatesNotAsked`, `UnusedRows`, and the answers in numbers. Assumes nothing.
 use mathlib.Core.Path.{_≡_}
 use mathlib.Core.Bool.{Bool, true, false, cond, _&&_}
 use mathlib.Core.List.{List, [], _∷_, _++_}
@@ -21,10 +22,9 @@ use Rattle.tables.specs.Fitness.{sizesFit, fit}
 use Rattle.tables.specs.Opening.{opening, opened}
 use Rattle.tables.specs.declared.Standing.the-variants.{Live}
 use Rattle.model.specs.declared.QueryAnswer.the-variants.{Figure}
-use Rattle.model.specs.Actions.{Action, Presentation, Treatment, Way, actionOf}
+use Rattle.model.specs.Actions.{Action, Treatment, actionOf}
 use Rattle.model.specs.Actions.Action.{AddCreditor, AddMandate, ChangeMandate, Collect, Treat}
 use Rattle.model.specs.Actions.Treatment.{Settle, Reject, Undo}
-use Rattle.model.specs.Actions.Way.{ByReturn, ByRefund, ByReversal}
 use Rattle.model.specs.Deadlines.{keptDue, timely}
 use Rattle.model.specs.Lookups.Known.{known}
 use Rattle.model.specs.Checks.{ruled}
@@ -73,14 +73,14 @@ times sort c (x ∷ xs) = cond (x .accepted && treats sort c (actionOf (x .event
 
 -- ---- limits, said once more: what an error of specs/Deadlines is to be caught by
 
--- the last day of an undoing, from S
-abbrev pub lastDayFrom : Way → ℕ → DateAnswer
-lastDayFrom ByReturn settled = businessDaysAfter (record { 0 = 5 }) settled
-lastDayFrom (ByRefund rate code) settled =
-    cond (eqb code 0)
+-- the last day of a return, refund or reversal, from S, by the kind and code of the event
+abbrev pub lastDayFrom : ℕ → ℕ → ℕ → DateAnswer
+lastDayFrom kind code settled =
+    cond (eqb kind 9)
+    (cond (eqb code 0)
     (andThen (daysAfter (record { 0 = 56 }) settled) (businessDaysAfter (record { 0 = 2 })))
-    (andThen (andThen (monthsAfter (record { 0 = 13 }) settled) (daysAfter (record { 0 = 30 }))) (businessDaysAfter (record { 0 = 4 })))
-lastDayFrom ByReversal settled = businessDaysAfter (record { 0 = 5 }) settled
+    (andThen (andThen (monthsAfter (record { 0 = 13 }) settled) (daysAfter (record { 0 = 30 }))) (businessDaysAfter (record { 0 = 4 }))))
+    (businessDaysAfter (record { 0 = 5 }) settled)
 
 -- the day until which a mandate is not lapsed, from the due last presented or from signing
 abbrev pub lapseFrom : NotedMandate → DateAnswer
@@ -92,37 +92,22 @@ pub record NotAfter (date : ℕ) (limit : DateAnswer) : Type 0 where
   pub is : limit ≡ Date last
   pub not-after : date ≤ last
 
--- refusal 13: the requested date is not after the 14th calendar day after the event date, and the event date not after the last
--- business day before the kept due
-pub record InGoodTime (date requested : ℕ) : Type 0 where
-  pub soon : NotAfter requested (daysAfter (record { 0 = 14 }) date)
-  pub early : NotAfter date (lastBusinessDayBefore (keptDue requested))
-
--- dates in range pass exactly then
-pub record PassesInGoodTime (date requested : ℕ) : Type 0 where
-  pub then : timely date requested ≡ true → InGoodTime date requested
-  pub only-then : InGoodTime date requested → timely date requested ≡ true
-
-abbrev pub Timing : Type 0
-Timing =
-    (date requested : ℕ) → inRange date ≡ true → inRange requested ≡ true → PassesInGoodTime date requested
-
 -- ---- an accepted event, by the journal just before it
 
--- its undoing: the settle was accepted before, and the date is not after the last day by the journal's S
-pub record UndoneInTime (before : List Entry) (c date : ℕ) (way : Way) : Type 0 where
-  pub settled-once : times isSettle c before ≡ 1
+-- an undoing: the settle was accepted before, and the date is not after the last day by the journal's S
+pub record UndoneInTime (before : List Entry) (e : Event) : Type 0 where
+  pub settled-once : times isSettle (e .a) before ≡ 1
   pub collection : NotedCollection
-  pub is-noted : journal before .collections c ≡ known collection
-  pub in-time : NotAfter date (lastDayFrom way (collection .settled))
+  pub is-noted : journal before .collections (e .a) ≡ known collection
+  pub in-time : NotAfter (e .date) (lastDayFrom (e .kind) (e .code) (collection .settled))
 
--- its collect: the mandate was neither closed nor cancelled, nor lapsed for it
-pub record CollectedLive (before : List Entry) (p : Presentation) : Type 0 where
+-- a collect: the mandate was neither closed nor cancelled, nor lapsed for its kept due
+pub record CollectedLive (before : List Entry) (e : Event) : Type 0 where
   pub mandate : NotedMandate
-  pub is-noted : journal before .mandates (p .mandate) ≡ known mandate
+  pub is-noted : journal before .mandates (e .mandate) ≡ known mandate
   pub is-live : mandate .standing ≡ Live
   pub due : ℕ
-  pub is-due : firstBusinessDay (p .requested) ≡ Date due
+  pub is-due : firstBusinessDay (e .second) ≡ Date due
   pub not-lapsed : NotAfter due (lapseFrom mandate)
 
 -- ---- the claim about a list of events given to a ledger
@@ -141,14 +126,14 @@ pub record Kept (l : Ledger) (es : List Event) : Type 0 where
   -- of all its returns, refunds and reversals at most one was, later than its settle and in time
   pub undone-once : (c : ℕ) → times isUndo c (history l es) ≤ 1
   pub undone-in-time :
-      (before later : List Entry) (x : Entry) (c : ℕ) (way : Way)
-      → history l es ≡ before ++ (x ∷ later) → x .accepted ≡ true → actionOf (x .event) ≡ Treat c (Undo way)
-      → UndoneInTime before c (x .event .date) way
+      (before later : List Entry) (x : Entry)
+      → history l es ≡ before ++ (x ∷ later) → x .accepted ≡ true → among (8 ∷ 9 ∷ 10 ∷ []) (x .event .kind) ≡ true
+      → UndoneInTime before (x .event)
   -- no collect was accepted on a mandate that was cancelled, closed or, for that collect, lapsed
   pub collected-live :
-      (before later : List Entry) (x : Entry) (p : Presentation)
-      → history l es ≡ before ++ (x ∷ later) → x .accepted ≡ true → actionOf (x .event) ≡ Collect p
-      → CollectedLive before p
+      (before later : List Entry) (x : Entry)
+      → history l es ≡ before ++ (x ∷ later) → x .accepted ≡ true → x .event .kind ≡ 5
+      → CollectedLive before (x .event)
 
 -- ---- demand 3
 
@@ -157,6 +142,23 @@ Demand3 =
     (t : Ledger) → sizesFit t ≡ true  -- any lent tables that an accepted opening was called on
     → (es : List Event)  -- any list of events, accepted and refused ones
     → Kept (opened t) es
+
+-- ---- the time of a collect
+
+-- refusal 13: the requested date is not after the 14th calendar day after the event date, and the event date not after the last
+-- business day before the kept due
+pub record InGoodTime (date requested : ℕ) : Type 0 where
+  pub soon : NotAfter requested (daysAfter (record { 0 = 14 }) date)
+  pub early : NotAfter date (lastBusinessDayBefore (keptDue requested))
+
+-- dates in range pass exactly then
+pub record PassesInGoodTime (date requested : ℕ) : Type 0 where
+  pub then : timely date requested ≡ true → InGoodTime date requested
+  pub only-then : InGoodTime date requested → timely date requested ≡ true
+
+abbrev pub Timing : Type 0
+Timing =
+    (date requested : ℕ) → inRange date ≡ true → inRange requested ≡ true → PassesInGoodTime date requested
 
 -- ---- what a collection is treated by
 

@@ -1,5 +1,5 @@
 -- The limits of specs/Deadlines are dates, from every date in range. To cite: `passed-limit`, `at-most-limit` (a test that passed names its limit),
--- `last-day-found`, `last-day-from`, `lapse-found`, `timing`. Assumes nothing.
+-- `last-day-found`, `last-day-return`, `last-day-refund`, `last-day-reversal`, `lapse-found`, `timing`. Assumes nothing.
 use mathlib.Core.Path.{_≡_, refl, sym, ap, _∙_}
 use mathlib.Core.Bool.{Bool, true, false, cond, not, _&&_}
 use mathlib.Core.Logic.{⊎-elim}
@@ -78,15 +78,22 @@ module _ (x : ℕ) (r : inRange x ≡ true) where
       same-date x _ (f .is-date) (days-after (record { 0 = 0 }) x (f .is-date) (omega (arith, range-days x r .1)))
 
 -- the last day as the promises word it
-pub last-day-from : (way : Way) (settled : ℕ) → inRange settled ≡ true → lastDay way settled ≡ lastDayFrom way settled
-unfolding lastDay periodEnd
-last-day-from ByReturn settled r = rw (no-months settled r, no-days settled r)
-last-day-from (ByRefund rate code) settled r = by-code (eqb code 0) refl
-  where
-    by-code : (b : Bool) → eqb code 0 ≡ b → lastDay (ByRefund rate code) settled ≡ lastDayFrom (ByRefund rate code) settled
-    by-code true e = rw (e, no-months settled r)
-    by-code false e = rw e
-last-day-from ByReversal settled r = rw (no-months settled r, no-days settled r)
+module _ (settled code : ℕ) (r : inRange settled ≡ true) where
+  pub last-day-return : lastDay ByReturn settled ≡ lastDayFrom 8 code settled
+  unfolding lastDay periodEnd
+  last-day-return = rw (no-months settled r, no-days settled r)
+
+  pub last-day-refund : (rate : ℕ) → lastDay (ByRefund rate code) settled ≡ lastDayFrom 9 code settled
+  unfolding lastDay periodEnd
+  last-day-refund rate = by-code (eqb code 0) refl
+    where
+      by-code : (b : Bool) → eqb code 0 ≡ b → lastDay (ByRefund rate code) settled ≡ lastDayFrom 9 code settled
+      by-code true e = rw (e, no-months settled r)
+      by-code false e = rw e
+
+  pub last-day-reversal : lastDay ByReversal settled ≡ lastDayFrom 10 code settled
+  unfolding lastDay periodEnd
+  last-day-reversal = rw (no-months settled r, no-days settled r)
 
 -- ---- lapse
 

@@ -2,14 +2,15 @@
 -- and journal that agree (`run-keeps`); then the opening starts it. Assumes nothing.
 use mathlib.Core.Path.{_≡_, refl, sym, ap, subst, _∙_}
 use mathlib.Core.Bool.{Bool, true, false, cond, not, _&&_}
+use mathlib.Core.Logic.{⊎-elim}
 use mathlib.Core.List.{List, [], _∷_, _++_, append-assoc, append-nil}
 use Prim.Native.Nat.{ℕ, zero, suc, _+_, _-_, _≤_}
 use native.Mathlib.Omega.{arith}
 use lib.Dec.{eqb, leb}
 use lib.IntN.{ℤ}
 use lib.ListN.{length, getD, replicate}
-use borrow.Author.Tests.{le-leb}
-use Rattle.common.proofs.Tests.{never, not-true}
+use borrow.Author.Tests.{le-leb, eqb-true}
+use Rattle.common.proofs.Tests.{never, true-or-false}
 use Rattle.calendar.specs.Gregorian.{inRange}
 use Rattle.calendar.specs.Periods.{isAfter}
 use Rattle.calendar.specs.declared.DateAnswer.{DateAnswer}
@@ -18,6 +19,7 @@ use Rattle.events.specs.declared.Event.{Event}
 use Rattle.events.specs.declared.limits.Checked.{Checked}
 use Rattle.events.specs.declared.limits.Checked.the-variants as events
 use Rattle.events.specs.Limits.{checked}
+use Rattle.events.specs.Promises.{among}
 use Rattle.positions.specs.Positions.{position, total}
 use Rattle.positions.proofs.Laws.Positions.{total-zeros, position-zeros}
 use Rattle.tables.specs.Limits.{creditorCount, debtorCount, bankCount}
@@ -38,10 +40,11 @@ use Rattle.tables.proofs.Laws.Fitness.{fit-facts}
 use Rattle.model.specs.declared.Answer.{Answer}
 use Rattle.model.specs.declared.Answer.the-variants.{Accepted, Refused}
 use Rattle.model.specs.declared.QueryAnswer.the-variants as queries
-use Rattle.model.specs.Actions.{Presentation, Treatment, Way, actionOf}
+use Rattle.model.specs.Actions.{Treatment, Way, presentation, actionOf}
 use Rattle.model.specs.Actions.Action.{Collect, Treat}
 use Rattle.model.specs.Actions.Treatment.{Undo}
-use Rattle.model.specs.Deadlines.{keptDue, lapseEnd, lapsedFor}
+use Rattle.model.specs.Actions.Way.{ByReturn, ByRefund, ByReversal}
+use Rattle.model.specs.Deadlines.{keptDue, lastDay, lapseEnd, lapsedFor}
 use Rattle.model.specs.Lookups.{Known, ofKnown, mandateOf, collectionOf}
 use Rattle.model.specs.Lookups.Known.{unknown, known}
 use Rattle.model.specs.Checks.{standsLive, ruled}
@@ -49,13 +52,14 @@ use Rattle.model.specs.Effects.{effect}
 use Rattle.model.specs.Step.{isAccepted, thenRuled, answer, afterAnswer, after, inQuery, figureOf, query, answered, run, Entry, entry, history}
 use Rattle.model.specs.Journal.{Journal, journalFrom, journal, figureIn}
 use Rattle.model.specs.Promises.{sumTo, sumOf, isUndo, isEnd, isSettle, times, lastDayFrom, lapseFrom, NotAfter, UndoneInTime, CollectedLive, Kept, Demand3, MandatesNotAsked}
+use Rattle.model.proofs.Laws.Actions.{action-collect, action-return, action-refund, action-reversal}
 use Rattle.model.proofs.Laws.Sound.{Sound, sound-event, Passed, passed}
 use Rattle.model.proofs.Laws.Effects.{mandate-there, collection-there}
 use Rattle.model.proofs.Laws.Wordings.{notedOf, note-action}
 use Rattle.model.proofs.Laws.Agree.{notedKnown, endsOf, undosOf, settlesOf, inKnown, Agrees}
 use Rattle.model.proofs.Laws.KeptTreatments.{noted-there}
 use Rattle.model.proofs.Laws.Invariant.{Sane, sane-kept, undo-facts}
-use Rattle.model.proofs.Laws.Limits.{passed-limit, last-day-found, last-day-from, lapse-found}
+use Rattle.model.proofs.Laws.Limits.{passed-limit, last-day-found, last-day-return, last-day-refund, last-day-reversal, lapse-found}
 use Rattle.model.proofs.Laws.Lists.{journal-more, times-more, AllPast, past-at}
 use Rattle.model.proofs.Laws.Sums.{sumTo-same, sumTo-total}
 
@@ -156,10 +160,8 @@ past-kept l h e s = past-case l h e (isAccepted (answer l e)) refl s
 -- ---- what is claimed of each accepted event by the journal before it
 
 pub record InTurn (before : List Entry) (x : Entry) : Type 0 where
-  pub undone :
-      (c : ℕ) (way : Way) → x .accepted ≡ true → actionOf (x .event) ≡ Treat c (Undo way)
-      → UndoneInTime before c (x .event .date) way
-  pub collected : (p : Presentation) → x .accepted ≡ true → actionOf (x .event) ≡ Collect p → CollectedLive before p
+  pub undone : x .accepted ≡ true → among (8 ∷ 9 ∷ 10 ∷ []) (x .event .kind) ≡ true → UndoneInTime before (x .event)
+  pub collected : x .accepted ≡ true → x .event .kind ≡ 5 → CollectedLive before (x .event)
 
 of-known : {A : Type 0} {x : Known A} {a : A} (f : A → Bool) → x ≡ known a → ofKnown x f ≡ true → f a ≡ true
 of-known {x = x} f e h = rw e at h
@@ -169,38 +171,62 @@ stands-live Live e = refl
 stands-live Closed e = absurd (never e refl)
 stands-live Cancelled e = absurd (never e refl)
 
-module _ (l : Ledger) (h : List Entry) (s : Past l h) (date : ℕ) where
+-- one of three numbers
+one-of : (P : Type 0) (n : ℕ) → among (8 ∷ 9 ∷ 10 ∷ []) n ≡ true → (n ≡ 8 → P) → (n ≡ 9 → P) → (n ≡ 10 → P) → P
+one-of P n h a b c =
+    ⊎-elim (λ p. a (sym (eqb-true 8 n p)))
+    (λ (p : eqb 8 n ≡ false).
+    ⊎-elim (λ q. b (sym (eqb-true 9 n q)))
+    (λ (q : eqb 9 n ≡ false).
+    ⊎-elim (λ r. c (sym (eqb-true 10 n r))) (λ (r : eqb 10 n ≡ false). absurd (never h (rw (p, q, r)))) (true-or-false (eqb 10 n)))
+    (true-or-false (eqb 9 n)))
+    (true-or-false (eqb 8 n))
+
+module _ (l : Ledger) (h : List Entry) (s : Past l h) (e : Event) where
   sane : Sane l (journal h) (countsOf h)
   unfolding Past
   sane = s
 
-  undone-in-time : (c : ℕ) (way : Way) → Passed l date (Treat c (Undo way)) → UndoneInTime h c date way
+  undone-by : (way : Way) → ((d : ℕ) → inRange d ≡ true → lastDay way d ≡ lastDayFrom (e .kind) (e .code) d) → Passed l (e .date) (Treat (e .a) (Undo way)) → UndoneInTime h e
   unfolding countsOf
-  undone-in-time c way p =
-      let t = collection-there l c (sane .safe .fits) (p .there) in
-      let u = undo-facts l c date way t p in
+  undone-by way words p =
+      let t = collection-there l (e .a) (sane .safe .fits) (p .there) in
+      let u = undo-facts l (e .a) (e .date) way t p in
       let f = last-day-found way (u .day) (u .real) in
-      let e = last-day-from way (u .day) (u .real) in
-      let n = noted-there l (journal h) (countsOf h) (countsOf h) date (sane .agrees) (fit-facts l (sane .safe .fits) .sizes) c t in
+      let w = words (u .day) (u .real) in
+      let n = noted-there l (journal h) (countsOf h) (countsOf h) (e .date) (sane .agrees) (fit-facts l (sane .safe .fits) .sizes) (e .a) t in
       record {
-        settled-once = sane .agrees .settled c ∙ ap (inKnown settlesOf) (t .is) ∙ ap settlesOf (u .state);
+        settled-once = sane .agrees .settled (e .a) ∙ ap (inKnown settlesOf) (t .is) ∙ ap settlesOf (u .state);
         collection = n .value;
         is-noted = n .is;
         in-time =
-            subst (λ (d : ℕ). NotAfter date (lastDayFrom way d)) (sym (n .same .settled (u .day) (u .state)))
-            (passed-limit date (f .date) (lastDayFrom way (u .day)) (sym e ∙ f .is) (subst (λ (a : DateAnswer). not (isAfter date a) ≡ true) e (u .in-time)));
+            subst (λ (d : ℕ). NotAfter (e .date) (lastDayFrom (e .kind) (e .code) d)) (sym (n .same .settled (u .day) (u .state)))
+            (passed-limit (e .date) (f .date) _ (sym w ∙ f .is) (subst (λ (a : DateAnswer). not (isAfter (e .date) a) ≡ true) w (u .in-time)));
       }
 
-  collected-live : (p : Presentation) → inRange (p .requested) ≡ true → Passed l date (Collect p) → CollectedLive h p
+  undone-in-time : Passed l (e .date) (actionOf e) → among (8 ∷ 9 ∷ 10 ∷ []) (e .kind) ≡ true → UndoneInTime h e
+  undone-in-time p k =
+      one-of (UndoneInTime h e) (e .kind) k
+      (λ i.
+      undone-by ByReturn (λ d r. last-day-return d (e .code) r ∙ ap (λ (n : ℕ). lastDayFrom n (e .code) d) (sym i))
+      (subst (Passed l (e .date)) (action-return e i) p))
+      (λ i.
+      undone-by (ByRefund (e .b) (e .code)) (λ d r. last-day-refund d (e .code) r (e .b) ∙ ap (λ (n : ℕ). lastDayFrom n (e .code) d) (sym i))
+      (subst (Passed l (e .date)) (action-refund e i) p))
+      (λ i.
+      undone-by ByReversal (λ d r. last-day-reversal d (e .code) r ∙ ap (λ (n : ℕ). lastDayFrom n (e .code) d) (sym i))
+      (subst (Passed l (e .date)) (action-reversal e i) p))
+
+  collected-live : inRange (e .second) ≡ true → Passed l (e .date) (Collect (presentation e)) → CollectedLive h e
   unfolding notedOf keptDue lapseEnd
-  collected-live p r q =
-      let t = mandate-there l (p .mandate) (sane .safe .fits) (q .there) in
-      let k = kept-due (p .requested) r in
+  collected-live r q =
+      let t = mandate-there l (e .mandate) (sane .safe .fits) (q .there) in
+      let k = kept-due (e .second) r in
       let f = lapse-found (t .mandate .presented) (t .mandate .signed) (t .fits .presented-date) (t .fits .signed-date) in
-      let g = of-known (λ (m : Mandate). not (lapsedFor (keptDue (p .requested)) (m .presented) (m .signed))) (t .is) (q .lapse) in
+      let g = of-known (λ (m : Mandate). not (lapsedFor (keptDue (e .second)) (m .presented) (m .signed))) (t .is) (q .lapse) in
       record {
         mandate = notedOf (t .mandate);
-        is-noted = sym (sane .agrees .mandates (p .mandate)) ∙ ap notedKnown (t .is);
+        is-noted = sym (sane .agrees .mandates (e .mandate)) ∙ ap notedKnown (t .is);
         is-live = stands-live (t .mandate .standing) (of-known (λ (m : Mandate). standsLive (m .standing)) (t .is) (q .live));
         due = k .date;
         is-due = k .is;
@@ -214,11 +240,11 @@ in-turn l h e s =
     λ a. accepted-passed l e (s .safe .fits) (is-accepted (answer l e) a)
     in
     record {
-      undone = λ c way a i. undone-in-time l h s (e .date) c way (subst (Passed l (e .date)) i (pass a .1));
+      undone = λ a i. undone-in-time l h s e (pass a .1) i;
       collected =
-          λ p a i.
-          collected-live l h s (e .date) p (subst Sound i (sound-event e (pass a .0) .1) .requested)
-          (subst (Passed l (e .date)) i (pass a .1));
+          λ a i.
+          collected-live l h s e (subst Sound (action-collect e i) (sound-event e (pass a .0) .1) .requested)
+          (subst (Passed l (e .date)) (action-collect e i) (pass a .1));
     }
 
 -- ---- every list, from any ledger and history that agree
@@ -361,8 +387,8 @@ module _ (l : Ledger) (es : List Event) (r : RunKeeps l [] es) where
         banks = banks ∙ end .balanced .banks;
         ended-once = λ c. rw (end .agrees .ended c) (ends-le (collectionOf (run l es) c));
         undone-once = λ c. rw (end .agrees .undone c) (undos-le (collectionOf (run l es) c));
-        undone-in-time = λ before later x c way e. past-at InTurn (history l es) before later x (r .turns) e .undone c way;
-        collected-live = λ before later x p e. past-at InTurn (history l es) before later x (r .turns) e .collected p;
+        undone-in-time = λ before later x e. past-at InTurn (history l es) before later x (r .turns) e .undone;
+        collected-live = λ before later x e. past-at InTurn (history l es) before later x (r .turns) e .collected;
       }
 
 -- ---- demand 3
