@@ -22,9 +22,8 @@ use Rattle.tables.specs.Fitness.{sizesFit, fit}
 use Rattle.tables.specs.Opening.{opening, opened}
 use Rattle.tables.specs.declared.Standing.the-variants.{Live}
 use Rattle.model.specs.declared.QueryAnswer.the-variants.{Figure}
-use Rattle.model.specs.Actions.{Action, Treatment, actionOf}
-use Rattle.model.specs.Actions.Action.{AddCreditor, AddMandate, ChangeMandate, Collect, Treat}
-use Rattle.model.specs.Actions.Treatment.{Settle, Reject, Undo}
+use Rattle.model.specs.Actions.{Treatment}
+use Rattle.model.specs.Actions.Action.{Treat}
 use Rattle.model.specs.Deadlines.{keptDue, timely}
 use Rattle.model.specs.Lookups.Known.{known}
 use Rattle.model.specs.Checks.{ruled}
@@ -43,33 +42,21 @@ sumOf l kind count = sumTo (λ n. answered (query l kind n)) count
 
 -- ---- what was accepted of a collection
 
-abbrev pub isUndo : Treatment → Bool
-isUndo Settle = false
-isUndo Reject = false
-isUndo (Undo way) = true
+-- how many accepted events of some kinds name the collection c, which the kinds 6 to 10 have in field a
+unfoldable pub times : List ℕ → ℕ → List Entry → ℕ
+times kinds c [] = 0
+times kinds c (x ∷ xs) = cond (x .accepted && (eqb (x .event .a) c && among kinds (x .event .kind))) 1 0 + times kinds c xs
 
-abbrev pub isEnd : Treatment → Bool
-isEnd Settle = true
-isEnd Reject = true
-isEnd (Undo way) = false
+abbrev pub settles : List ℕ
+settles = 6 ∷ []
 
-abbrev pub isSettle : Treatment → Bool
-isSettle Settle = true
-isSettle Reject = false
-isSettle (Undo way) = false
+-- settles and rejections
+abbrev pub ends : List ℕ
+ends = 6 ∷ 7 ∷ []
 
--- an event that treats the collection c in a way of a sort
-abbrev pub treats : (Treatment → Bool) → ℕ → Action → Bool
-treats sort c (AddCreditor a b) = false
-treats sort c (AddMandate m) = false
-treats sort c (ChangeMandate n x) = false
-treats sort c (Collect p) = false
-treats sort c (Treat n t) = eqb n c && sort t
-
--- how many accepted events of a history treat it so
-unfoldable pub times : (Treatment → Bool) → ℕ → List Entry → ℕ
-times sort c [] = 0
-times sort c (x ∷ xs) = cond (x .accepted && treats sort c (actionOf (x .event))) 1 0 + times sort c xs
+-- returns, refunds and reversals
+abbrev pub undoings : List ℕ
+undoings = 8 ∷ 9 ∷ 10 ∷ []
 
 -- ---- limits, said once more: what an error of specs/Deadlines is to be caught by
 
@@ -96,7 +83,7 @@ pub record NotAfter (date : ℕ) (limit : DateAnswer) : Type 0 where
 
 -- an undoing: the settle was accepted before, and the date is not after the last day by the journal's S
 pub record UndoneInTime (before : List Entry) (e : Event) : Type 0 where
-  pub settled-once : times isSettle (e .a) before ≡ 1
+  pub settled-once : times settles (e .a) before ≡ 1
   pub collection : NotedCollection
   pub is-noted : journal before .collections (e .a) ≡ known collection
   pub in-time : NotAfter (e .date) (lastDayFrom (e .kind) (e .code) (collection .settled))
@@ -122,12 +109,12 @@ pub record Kept (l : Ledger) (es : List Event) : Type 0 where
       sumOf (run l es) 1 creditorCount +ℤ sumOf (run l es) 2 debtorCount +ℤ answered (query (run l es) 4 0) ≡ pos 0
   pub banks : sumOf (run l es) 3 bankCount ≡ pos 0
   -- of all settles and rejections of one collection at most one was accepted
-  pub ended-once : (c : ℕ) → times isEnd c (history l es) ≤ 1
+  pub ended-once : (c : ℕ) → times ends c (history l es) ≤ 1
   -- of all its returns, refunds and reversals at most one was, later than its settle and in time
-  pub undone-once : (c : ℕ) → times isUndo c (history l es) ≤ 1
+  pub undone-once : (c : ℕ) → times undoings c (history l es) ≤ 1
   pub undone-in-time :
       (before later : List Entry) (x : Entry)
-      → history l es ≡ before ++ (x ∷ later) → x .accepted ≡ true → among (8 ∷ 9 ∷ 10 ∷ []) (x .event .kind) ≡ true
+      → history l es ≡ before ++ (x ∷ later) → x .accepted ≡ true → among undoings (x .event .kind) ≡ true
       → UndoneInTime before (x .event)
   -- no collect was accepted on a mandate that was cancelled, closed or, for that collect, lapsed
   pub collected-live :

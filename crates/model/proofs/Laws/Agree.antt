@@ -3,19 +3,17 @@
 -- To cite: `Agrees`, `SameCollection`. Assumes nothing.
 use mathlib.Core.Path.{_≡_}
 use Prim.Native.Nat.{ℕ}
-use mathlib.Core.Bool.{Bool}
 use Rattle.positions.specs.Positions.{position}
 use Rattle.tables.specs.Ledger.{Ledger, bankOf}
 use Rattle.tables.specs.declared.Mandate.{Mandate}
 use Rattle.tables.specs.declared.Collection.{Collection}
 use Rattle.tables.specs.declared.State.{State}
 use Rattle.tables.specs.declared.State.the-variants.{Presented, Rejected, Settled, Undone}
-use Rattle.model.specs.Actions.{Treatment}
 use Rattle.model.specs.Lookups.{Known, mandateOf, collectionOf}
 use Rattle.model.specs.Lookups.Known.{unknown, known}
 use Rattle.model.specs.Journal.{Journal, NotedMandate, NotedCollection}
-use Rattle.model.specs.Promises.{isEnd, isUndo, isSettle}
-use Rattle.model.proofs.Laws.Wordings.{notedOf}
+use Rattle.model.proofs.Laws.Wordings.{notedOf, Sort}
+use Rattle.model.proofs.Laws.Wordings.Sort.{Ends, Undos, Settles}
 
 -- ---- a mandate and a collection as the journal has them noted
 
@@ -63,7 +61,7 @@ inKnown f (known k) = f (k .state)
 
 -- ---- agreement
 
-pub record Agrees (l : Ledger) (j : Journal) (t : (Treatment → Bool) → ℕ → ℕ) : Type 0 where
+pub record Agrees (l : Ledger) (j : Journal) (t : Sort → ℕ → ℕ) : Type 0 where
   pub banks : (a : ℕ) → bankOf (l .creditors) a ≡ j .banks a
   pub mandates : (n : ℕ) → notedKnown (mandateOf l n) ≡ j .mandates n
   pub collections : (n : ℕ) → SameKnown (collectionOf l n) (j .collections n)
@@ -71,6 +69,6 @@ pub record Agrees (l : Ledger) (j : Journal) (t : (Treatment → Bool) → ℕ �
   pub debtor-figures : (n : ℕ) → position (l .debtorPositions) n ≡ j .debtorFigure n
   pub bank-figures : (n : ℕ) → position (l .bankPositions) n ≡ j .bankFigure n
   pub compensation : l .compensation ≡ j .compensation
-  pub ended : (c : ℕ) → t isEnd c ≡ inKnown endsOf (collectionOf l c)
-  pub undone : (c : ℕ) → t isUndo c ≡ inKnown undosOf (collectionOf l c)
-  pub settled : (c : ℕ) → t isSettle c ≡ inKnown settlesOf (collectionOf l c)
+  pub ended : (c : ℕ) → t Ends c ≡ inKnown endsOf (collectionOf l c)
+  pub undone : (c : ℕ) → t Undos c ≡ inKnown undosOf (collectionOf l c)
+  pub settled : (c : ℕ) → t Settles c ≡ inKnown settlesOf (collectionOf l c)

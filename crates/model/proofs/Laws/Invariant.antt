@@ -34,7 +34,7 @@ use Rattle.model.specs.Effects.{dated, keepMandate, keepCollection, addC
 use Rattle.model.specs.Journal.{Journal}
 use Rattle.model.proofs.Laws.Sound.{Sound, SoundWay, Passed}
 use Rattle.model.proofs.Laws.Effects.{not-known, MandateThere, mandate-there, CollectionThere, collection-there, effect-change, effect-collect, effect-treat}
-use Rattle.model.proofs.Laws.Wordings.{noteOf}
+use Rattle.model.proofs.Laws.Wordings.{noteOf, Sort}
 use Rattle.model.proofs.Laws.Agree.{Agrees}
 use Rattle.model.proofs.Laws.KeptMandates.{Counts, agrees-creditor, agrees-mandate, agrees-change, agrees-collect}
 use Rattle.model.proofs.Laws.KeptTreatments.{is-presented, is-settled, creditor-entry, debtor-entry, dbank-entry, cbank-entry, agrees-settle, agrees-reject, agrees-undo}
@@ -42,7 +42,7 @@ use Rattle.model.proofs.Laws.Spent.{sum-treated, sum-added}
 use Rattle.model.proofs.Laws.Bounds.{Balanced, Posting, larger, settle-posting, undo-posting, days-in-time, bounded-posted, balanced-posted}
 use Rattle.model.proofs.Laws.FitKept.{fit-creditor, fit-mandate-added, fit-change, fit-collect, fit-kept, fit-posted}
 
-pub record Sane (l : Ledger) (j : Journal) (t : (Treatment → Bool) → ℕ → ℕ) : Type 0 where
+pub record Sane (l : Ledger) (j : Journal) (t : Sort → ℕ → ℕ) : Type 0 where
   pub safe : Safe l
   pub agrees : Agrees l j t
   pub balanced : Balanced l
@@ -221,7 +221,7 @@ module _ (l : Ledger) (date : ℕ) (s : Safe l) (range : inRange date ≡ true) 
 
 -- ---- each event keeps the agreement and the sums
 
-module _ (l : Ledger) (j : Journal) (t t' : (Treatment → Bool) → ℕ → ℕ) (date : ℕ) (s : Sane l j t) (range : inRange date ≡ true) where
+module _ (l : Ledger) (j : Journal) (t t' : Sort → ℕ → ℕ) (date : ℕ) (s : Sane l j t) (range : inRange date ≡ true) where
   fits : fit l ≡ true
   fits = s .safe .fits
 

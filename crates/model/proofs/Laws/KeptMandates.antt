@@ -21,17 +21,16 @@ use Rattle.tables.specs.declared.State.{State}
 use Rattle.tables.specs.declared.State.the-variants.{Presented, Settled}
 use Rattle.tables.proofs.Laws.Ledger.{bankOf-zero, bankOf-at}
 use Rattle.tables.proofs.Laws.Fitness.{Within}
-use Rattle.model.specs.Actions.{Action, Change, Presentation, Treatment}
+use Rattle.model.specs.Actions.{Action, Change, Presentation}
 use Rattle.model.specs.Actions.Action.{AddCreditor, AddMandate, ChangeMandate, Collect}
 use Rattle.model.specs.Actions.Change.{NewBank, NewCreditor, Cancel}
 use Rattle.model.specs.Lookups.{Known, mandateOf, collectionOf}
 use Rattle.model.specs.Lookups.Known.{unknown, known}
 use Rattle.model.specs.Effects.{dated, keepMandate, addCollection, changed, presentedOn, newCollection, effect}
 use Rattle.model.specs.Journal.{Journal, NotedMandate, NotedCollection, noted, withMandate, withCollection}
-use Rattle.model.specs.Promises.{treats}
 use Rattle.model.proofs.Laws.Views.{mandateOf-keep, mandateOf-add, collectionOf-add}
 use Rattle.model.proofs.Laws.Effects.{MandateThere, effect-change, effect-collect}
-use Rattle.model.proofs.Laws.Wordings.{notedOf, changeOf, presentOf, collectionNoted, noteOf}
+use Rattle.model.proofs.Laws.Wordings.{notedOf, changeOf, presentOf, collectionNoted, noteOf, Sort, treats}
 use Rattle.model.proofs.Laws.Agree.{notedKnown, SameCollection, SameKnown, endsOf, undosOf, settlesOf, inKnown, Agrees}
 
 presented-not-settled : (s : ℕ) → Presented ≡ Settled s → ⊥
@@ -40,8 +39,8 @@ presented-not-settled s e = let z : _≡_ {A = ℕ} 0 1 = cc in omega arith
 -- ---- counts
 
 -- one event more
-abbrev pub Counts : ((Treatment → Bool) → ℕ → ℕ) → ((Treatment → Bool) → ℕ → ℕ) → Action → Type 0
-Counts t t' a = (sort : Treatment → Bool) (c : ℕ) → t' sort c ≡ t sort c + cond (treats sort c a) 1 0
+abbrev pub Counts : (Sort → ℕ → ℕ) → (Sort → ℕ → ℕ) → Action → Type 0
+Counts t t' a = (sort : Sort) (c : ℕ) → t' sort c ≡ t sort c + cond (treats sort c a) 1 0
 
 uncounted : {n m : ℕ} → m ≡ n + 0 → m ≡ n
 uncounted {n} {m} e = omega arith
@@ -69,7 +68,7 @@ bankOf-set creditors a b low high n =
     (true-or-false (eqb n 0))))
     (true-or-false (eqb n a))
 
-module _ (l : Ledger) (j : Journal) (t t' : (Treatment → Bool) → ℕ → ℕ) (date : ℕ) (g : Agrees l j t) where
+module _ (l : Ledger) (j : Journal) (t t' : Sort → ℕ → ℕ) (date : ℕ) (g : Agrees l j t) where
   pub agrees-creditor : (a b : ℕ) → Within 1 creditorCount a → length (l .creditors) ≡ creditorCount → Counts t t' (AddCreditor a b) → Agrees (effect l date (AddCreditor a b)) (noteOf j date (AddCreditor a b)) t'
   unfolding effect noteOf mandateOf collectionOf
   agrees-creditor a b w len n =

@@ -29,10 +29,10 @@ use Rattle.model.specs.Lookups.Known.{unknown, known}
 use Rattle.model.specs.Checks.{isPresented, isSettled, settledOn}
 use Rattle.model.specs.Effects.{dated, keepCollection, stateAfter, treated, undone, effect}
 use Rattle.model.specs.Journal.{Journal, NotedCollection, noted, plus, withCollection, notedSettled}
-use Rattle.model.specs.Promises.{isEnd, isUndo, isSettle}
 use Rattle.model.proofs.Laws.Views.{collectionOf-keep}
 use Rattle.model.proofs.Laws.Effects.{CollectionThere, effect-treat}
-use Rattle.model.proofs.Laws.Wordings.{withFigures, noteOf}
+use Rattle.model.proofs.Laws.Wordings.{withFigures, noteOf, Sort, sorted}
+use Rattle.model.proofs.Laws.Wordings.Sort.{Ends, Undos, Settles}
 use Rattle.model.proofs.Laws.Agree.{SameCollection, SameKnown, endsOf, undosOf, settlesOf, inKnown, Agrees}
 use Rattle.model.proofs.Laws.KeptMandates.{Counts}
 
@@ -85,7 +85,7 @@ noted-as : (k : Collection) (y : Known NotedCollection) → SameKnown (known k) 
 noted-as k unknown s = absurd s
 noted-as k (known x) s = record { value = x; is = refl; same = s }
 
-module _ (l : Ledger) (j : Journal) (t t' : (Treatment → Bool) → ℕ → ℕ) (date : ℕ) (g : Agrees l j t) (z : Sizes l) (n : ℕ) (h : CollectionThere l n) where
+module _ (l : Ledger) (j : Journal) (t t' : Sort → ℕ → ℕ) (date : ℕ) (g : Agrees l j t) (z : Sizes l) (n : ℕ) (h : CollectionThere l n) where
   pub noted-there : NotedAs (h .collection) (j .collections n)
   noted-there = noted-as (h .collection) (j .collections n) (rw (h .is) at (g .collections n))
 
@@ -122,7 +122,7 @@ module _ (l : Ledger) (j : Journal) (t t' : (Treatment → Bool) → ℕ → ℕ
   same-cond false k x y w s r = r
 
   -- of the treated collection as many were accepted as its new state says, of any other as before
-  counted : (sort : Treatment → Bool) (f : State → ℕ) (tr : Treatment) (k' : Collection) → Counts t t' (Treat n tr) → ((c : ℕ) → t sort c ≡ inKnown f (collectionOf l c)) → f (k' .state) ≡ f (h .collection .state) + cond (sort tr) 1 0 → (c : ℕ) → t' sort c ≡ inKnown f (cond (eqb c n) (known k') (collectionOf l c))
+  counted : (sort : Sort) (f : State → ℕ) (tr : Treatment) (k' : Collection) → Counts t t' (Treat n tr) → ((c : ℕ) → t sort c ≡ inKnown f (collectionOf l c)) → f (k' .state) ≡ f (h .collection .state) + cond (sorted sort tr) 1 0 → (c : ℕ) → t' sort c ≡ inKnown f (cond (eqb c n) (known k') (collectionOf l c))
   counted sort f tr k' cs old e c =
       ⊎-elim
       (λ b.
@@ -201,9 +201,9 @@ module _ (l : Ledger) (j : Journal) (t t' : (Treatment → Bool) → ℕ → ℕ
         debtor-figures = debtor-after (settlement (h .collection .amount)) (settlement (x .amount)) x s p;
         bank-figures = banks-after (settlement (h .collection .amount)) (settlement (x .amount)) x s p;
         compensation = ap (λ (i : ℤ). i +ℤ pos 0) (g .compensation);
-        ended = λ c. counted isEnd endsOf Settle k' cs (g .ended) (rw st) c ∙ ap (inKnown endsOf) (sym (kept Settle c));
-        undone = λ c. counted isUndo undosOf Settle k' cs (g .undone) (rw st) c ∙ ap (inKnown undosOf) (sym (kept Settle c));
-        settled = λ c. counted isSettle settlesOf Settle k' cs (g .settled) (rw st) c ∙ ap (inKnown settlesOf) (sym (kept Settle c));
+        ended = λ c. counted Ends endsOf Settle k' cs (g .ended) (rw st) c ∙ ap (inKnown endsOf) (sym (kept Settle c));
+        undone = λ c. counted Undos undosOf Settle k' cs (g .undone) (rw st) c ∙ ap (inKnown undosOf) (sym (kept Settle c));
+        settled = λ c. counted Settles settlesOf Settle k' cs (g .settled) (rw st) c ∙ ap (inKnown settlesOf) (sym (kept Settle c));
       })
 
   -- ---- event 7
@@ -230,9 +230,9 @@ module _ (l : Ledger) (j : Journal) (t t' : (Treatment → Bool) → ℕ → ℕ
         debtor-figures = g .debtor-figures;
         bank-figures = g .bank-figures;
         compensation = g .compensation;
-        ended = λ c. counted isEnd endsOf Reject k' cs (g .ended) (rw st) c ∙ ap (inKnown endsOf) (sym (kept Reject c));
-        undone = λ c. counted isUndo undosOf Reject k' cs (g .undone) (rw st) c ∙ ap (inKnown undosOf) (sym (kept Reject c));
-        settled = λ c. counted isSettle settlesOf Reject k' cs (g .settled) (rw st) c ∙ ap (inKnown settlesOf) (sym (kept Reject c));
+        ended = λ c. counted Ends endsOf Reject k' cs (g .ended) (rw st) c ∙ ap (inKnown endsOf) (sym (kept Reject c));
+        undone = λ c. counted Undos undosOf Reject k' cs (g .undone) (rw st) c ∙ ap (inKnown undosOf) (sym (kept Reject c));
+        settled = λ c. counted Settles settlesOf Reject k' cs (g .settled) (rw st) c ∙ ap (inKnown settlesOf) (sym (kept Reject c));
       })
 
   -- ---- events 8, 9 and 10
@@ -272,8 +272,8 @@ module _ (l : Ledger) (j : Journal) (t t' : (Treatment → Bool) → ℕ → ℕ
           compensation =
               ap (λ (i : ℤ). i +ℤ p .compensation) (g .compensation)
               ∙ ap (λ (q : Postings). j .compensation +ℤ q .compensation) undo-postings;
-          ended = λ c. counted isEnd endsOf (Undo way) k' cs (g .ended) (rw st) c ∙ ap (inKnown endsOf) (sym (kept (Undo way) c));
-          undone = λ c. counted isUndo undosOf (Undo way) k' cs (g .undone) (rw st) c ∙ ap (inKnown undosOf) (sym (kept (Undo way) c));
+          ended = λ c. counted Ends endsOf (Undo way) k' cs (g .ended) (rw st) c ∙ ap (inKnown endsOf) (sym (kept (Undo way) c));
+          undone = λ c. counted Undos undosOf (Undo way) k' cs (g .undone) (rw st) c ∙ ap (inKnown undosOf) (sym (kept (Undo way) c));
           settled =
-              λ c. counted isSettle settlesOf (Undo way) k' cs (g .settled) (rw st) c ∙ ap (inKnown settlesOf) (sym (kept (Undo way) c));
+              λ c. counted Settles settlesOf (Undo way) k' cs (g .settled) (rw st) c ∙ ap (inKnown settlesOf) (sym (kept (Undo way) c));
         })

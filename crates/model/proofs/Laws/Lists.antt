@@ -1,14 +1,15 @@
 -- Laws of lists of events: the journal and the counts after one more entry, and what holds of each entry by those before it.
 -- To cite: `journal-more`, `times-more`, `AllPast` with `past-at`. Assumes nothing.
 use mathlib.Core.Path.{_≡_, refl, sym, subst}
-use mathlib.Core.Bool.{Bool, cond, _&&_}
+use mathlib.Core.Bool.{cond, _&&_}
 use mathlib.Core.List.{List, [], _∷_, _++_, append-assoc, append-nil}
 use Prim.Native.Nat.{ℕ, _+_}
 use native.Mathlib.Omega.{arith}
-use Rattle.model.specs.Actions.{Treatment, actionOf}
+use lib.Dec.{eqb}
+use Rattle.events.specs.Promises.{among}
 use Rattle.model.specs.Step.{Entry}
 use Rattle.model.specs.Journal.{Journal, feed, journalFrom, journal, empty}
-use Rattle.model.specs.Promises.{treats, times}
+use Rattle.model.specs.Promises.{times}
 
 -- ---- one entry more
 
@@ -20,10 +21,10 @@ journalFrom-more j (y ∷ h) x = journalFrom-more (feed j y) h x
 pub journal-more : (h : List Entry) (x : Entry) → journal (h ++ (x ∷ [])) ≡ feed (journal h) x
 journal-more h x = journalFrom-more empty h x
 
-pub times-more : (sort : Treatment → Bool) (c : ℕ) (h : List Entry) (x : Entry) → times sort c (h ++ (x ∷ [])) ≡ times sort c h + cond (x .accepted && treats sort c (actionOf (x .event))) 1 0
+pub times-more : (kinds : List ℕ) (c : ℕ) (h : List Entry) (x : Entry) → times kinds c (h ++ (x ∷ [])) ≡ times kinds c h + cond (x .accepted && (eqb (x .event .a) c && among kinds (x .event .kind))) 1 0
 unfolding times
-times-more sort c [] x = omega arith
-times-more sort c (y ∷ h) x = omega (arith, times-more sort c h x)
+times-more kinds c [] x = omega arith
+times-more kinds c (y ∷ h) x = omega (arith, times-more kinds c h x)
 
 -- ---- each entry, by those before it
 

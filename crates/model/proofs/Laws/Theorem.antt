@@ -40,7 +40,7 @@ use Rattle.tables.proofs.Laws.Fitness.{fit-facts}
 use Rattle.model.specs.declared.Answer.{Answer}
 use Rattle.model.specs.declared.Answer.the-variants.{Accepted, Refused}
 use Rattle.model.specs.declared.QueryAnswer.the-variants as queries
-use Rattle.model.specs.Actions.{Treatment, Way, presentation, actionOf}
+use Rattle.model.specs.Actions.{Way, presentation, actionOf}
 use Rattle.model.specs.Actions.Action.{Collect, Treat}
 use Rattle.model.specs.Actions.Treatment.{Undo}
 use Rattle.model.specs.Actions.Way.{ByReturn, ByRefund, ByReversal}
@@ -51,11 +51,12 @@ use Rattle.model.specs.Checks.{standsLive, ruled}
 use Rattle.model.specs.Effects.{effect}
 use Rattle.model.specs.Step.{isAccepted, thenRuled, answer, afterAnswer, after, inQuery, figureOf, query, answered, run, Entry, entry, history}
 use Rattle.model.specs.Journal.{Journal, journalFrom, journal, figureIn}
-use Rattle.model.specs.Promises.{sumTo, sumOf, isUndo, isEnd, isSettle, times, lastDayFrom, lapseFrom, NotAfter, UndoneInTime, CollectedLive, Kept, Demand3, MandatesNotAsked}
+use Rattle.model.specs.Promises.{sumTo, sumOf, times, undoings, lastDayFrom, lapseFrom, NotAfter, UndoneInTime, CollectedLive, Kept, Demand3, MandatesNotAsked}
 use Rattle.model.proofs.Laws.Actions.{action-collect, action-return, action-refund, action-reversal}
 use Rattle.model.proofs.Laws.Sound.{Sound, sound-event, Passed, passed}
 use Rattle.model.proofs.Laws.Effects.{mandate-there, collection-there}
-use Rattle.model.proofs.Laws.Wordings.{notedOf, note-action}
+use Rattle.model.proofs.Laws.Wordings.{notedOf, note-action, Sort, kindsOf, counted-action}
+use Rattle.model.proofs.Laws.Wordings.Sort.{Ends, Undos, Settles}
 use Rattle.model.proofs.Laws.Agree.{notedKnown, endsOf, undosOf, settlesOf, inKnown, Agrees}
 use Rattle.model.proofs.Laws.KeptTreatments.{noted-there}
 use Rattle.model.proofs.Laws.Invariant.{Sane, sane-kept, undo-facts}
@@ -98,8 +99,8 @@ is-accepted (Refused r) h = absurd (never h refl)
 -- ---- the invariant over a history
 
 -- the counts of a history
-unfoldable pub countsOf : List Entry → (Treatment → Bool) → ℕ → ℕ
-countsOf h sort c = times sort c h
+unfoldable pub countsOf : List Entry → Sort → ℕ → ℕ
+countsOf h sort c = times (kindsOf sort) c h
 
 unfoldable pub Past : Ledger → List Entry → Type 0
 Past l h = Sane l (journal h) (countsOf h)
@@ -115,10 +116,10 @@ past-accepted l h e s a =
     let o = sound-event e (p .0) in
     rw (journal-more h (entry e true), note-action (journal h) e (p .0))
     (sane-kept l (journal h) (countsOf h) (countsOf (h ++ (entry e true ∷ []))) (e .date) s (o .0) (actionOf e) (o .1) (p .1)
-    (λ sort c. times-more sort c h (entry e true)))
+    (λ sort c. times-more (kindsOf sort) c h (entry e true) ∙ ap (λ (b : Bool). times (kindsOf sort) c h + cond b 1 0) (counted-action sort c e (p .0))))
 
 -- counts that are the same
-sane-same : (l : Ledger) (j : Journal) (t t' : (Treatment → Bool) → ℕ → ℕ) → ((sort : Treatment → Bool) (c : ℕ) → t' sort c ≡ t sort c) → Sane l j t → Sane l j t'
+sane-same : (l : Ledger) (j : Journal) (t t' : Sort → ℕ → ℕ) → ((sort : Sort) (c : ℕ) → t' sort c ≡ t sort c) → Sane l j t → Sane l j t'
 sane-same l j t t' same s =
     let g = s .agrees in
     record {
@@ -132,9 +133,9 @@ sane-same l j t t' same s =
             debtor-figures = g .debtor-figures;
             bank-figures = g .bank-figures;
             compensation = g .compensation;
-            ended = λ c. same isEnd c ∙ g .ended c;
-            undone = λ c. same isUndo c ∙ g .undone c;
-            settled = λ c. same isSettle c ∙ g .settled c;
+            ended = λ c. same Ends c ∙ g .ended c;
+            undone = λ c. same Undos c ∙ g .undone c;
+            settled = λ c. same Settles c ∙ g .settled c;
           };
       balanced = s .balanced;
     }
@@ -144,7 +145,7 @@ unfolding Past countsOf
 past-refused l h e s =
     rw (journal-more h (entry e false))
     (sane-same l (journal h) (countsOf h) (countsOf (h ++ (entry e false ∷ [])))
-    (λ sort c. let m = times-more sort c h (entry e false) in omega arith) s)
+    (λ sort c. let m = times-more (kindsOf sort) c h (entry e false) in omega arith) s)
 
 past-case : (l : Ledger) (h : List Entry) (e : Event) (b : Bool) → isAccepted (answer l e) ≡ b → Past l h → Past (after l e) (h ++ (entry e b ∷ []))
 past-case l h e true i s =
@@ -160,7 +161,7 @@ past-kept l h e s = past-case l h e (isAccepted (answer l e)) refl s
 -- ---- what is claimed of each accepted event by the journal before it
 
 pub record InTurn (before : List Entry) (x : Entry) : Type 0 where
-  pub undone : x .accepted ≡ true → among (8 ∷ 9 ∷ 10 ∷ []) (x .event .kind) ≡ true → UndoneInTime before (x .event)
+  pub undone : x .accepted ≡ true → among undoings (x .event .kind) ≡ true → UndoneInTime before (x .event)
   pub collected : x .accepted ≡ true → x .event .kind ≡ 5 → CollectedLive before (x .event)
 
 of-known : {A : Type 0} {x : Known A} {a : A} (f : A → Bool) → x ≡ known a → ofKnown x f ≡ true → f a ≡ true
@@ -172,7 +173,7 @@ stands-live Closed e = absurd (never e refl)
 stands-live Cancelled e = absurd (never e refl)
 
 -- one of three numbers
-one-of : (P : Type 0) (n : ℕ) → among (8 ∷ 9 ∷ 10 ∷ []) n ≡ true → (n ≡ 8 → P) → (n ≡ 9 → P) → (n ≡ 10 → P) → P
+one-of : (P : Type 0) (n : ℕ) → among undoings n ≡ true → (n ≡ 8 → P) → (n ≡ 9 → P) → (n ≡ 10 → P) → P
 one-of P n h a b c =
     ⊎-elim (λ p. a (sym (eqb-true 8 n p)))
     (λ (p : eqb 8 n ≡ false).
@@ -204,7 +205,7 @@ module _ (l : Ledger) (h : List Entry) (s : Past l h) (e : Event) where
             (passed-limit (e .date) (f .date) _ (sym w ∙ f .is) (subst (λ (a : DateAnswer). not (isAfter (e .date) a) ≡ true) w (u .in-time)));
       }
 
-  undone-in-time : Passed l (e .date) (actionOf e) → among (8 ∷ 9 ∷ 10 ∷ []) (e .kind) ≡ true → UndoneInTime h e
+  undone-in-time : Passed l (e .date) (actionOf e) → among undoings (e .kind) ≡ true → UndoneInTime h e
   undone-in-time p k =
       one-of (UndoneInTime h e) (e .kind) k
       (λ i.
@@ -359,7 +360,7 @@ module _ (l : Ledger) (f : fit l ≡ true) where
 both : {a b : Bool} → a ≡ true → b ≡ true → a && b ≡ true
 both p q = rw (p, q)
 
-figures-agree : (l : Ledger) (j : Journal) (t : (Treatment → Bool) → ℕ → ℕ) (kind number : ℕ) → Agrees l j t → figureOf l kind number ≡ figureIn j kind number
+figures-agree : (l : Ledger) (j : Journal) (t : Sort → ℕ → ℕ) (kind number : ℕ) → Agrees l j t → figureOf l kind number ≡ figureIn j kind number
 figures-agree l j t kind number g =
     rw (g .creditor-figures number, g .debtor-figures number, g .bank-figures number, g .compensation)
 

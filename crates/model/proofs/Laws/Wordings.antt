@@ -1,8 +1,9 @@
 -- The journal's words and the step's say the same. `noteOf` is what an action asks the journal to note by the step's own rules
--- (`closes`, `undone`, `keptDue`); an event within its limits is noted as its action asks, `note-action`. The invariant keeps `noteOf`
--- and cites that law once. Assumes nothing.
+-- (`closes`, `undone`, `keptDue`); an event within its limits is noted as its action asks, `note-action`. `treats` counts actions as the
+-- promises count events by their kinds, `counted-action`. The invariant keeps these and cites both laws once. Assumes nothing.
 use mathlib.Core.Path.{_≡_, refl, sym, ap, _∙_}
-use mathlib.Core.Bool.{Bool, true, false, cond, _||_}
+use mathlib.Core.Bool.{Bool, true, false, cond, _&&_, _||_}
+use mathlib.Core.List.{List}
 use mathlib.Core.Logic.{⊎-elim}
 use Prim.Native.Nat.{ℕ, zero, suc, _+_, _≤_}
 use native.Mathlib.Omega.{arith}
@@ -18,6 +19,7 @@ use Rattle.positions.specs.declared.Postings.{Postings}
 use Rattle.events.specs.declared.Event.{Event}
 use Rattle.events.specs.declared.limits.Checked.the-variants.{Within}
 use Rattle.events.specs.Limits.{checked}
+use Rattle.events.specs.Promises.{among}
 use Rattle.events.proofs.Laws.Limits.{Limited, checked-facts, kind-cases, collect-facts}
 use Rattle.tables.specs.declared.Mandate.{Mandate}
 use Rattle.tables.specs.declared.Standing.the-variants.{Closed, Cancelled}
@@ -31,6 +33,7 @@ use Rattle.model.specs.Effects.{closes, undone}
 use Rattle.model.specs.Lookups.{Known}
 use Rattle.model.specs.Lookups.Known.{unknown, known}
 use Rattle.model.specs.Journal.{Journal, NotedMandate, NotedCollection, withBank, withMandate, withCollection, adding, needing, remade, newNoted, amended, cancelled, dueOn, isLast, collectedOn, notedCollection, noteCollect, notedSettled, noteSettle, noteBack, noteRefund, paidOn, needingSettled, noteKind, note}
+use Rattle.model.specs.Promises.{settles, ends, undoings}
 use Rattle.model.proofs.Laws.Actions.{action-creditor, action-mandate, action-amend, action-cancel, action-collect, action-settle, action-reject, action-return, action-refund, action-reversal}
 
 -- ---- by the step's rules
@@ -227,3 +230,99 @@ module _ (j : Journal) (e : Event) (m : Limited e) where
 
 pub note-action : (j : Journal) (e : Event) → checked e ≡ Within → note j e ≡ noteOf j (e .date) (actionOf e)
 note-action j e h = by-kind j e (checked-facts e h)
+
+-- ---- what is counted of a collection
+
+pub data Sort : Type 0 where
+  Ends : Sort
+  Undos : Sort
+  Settles : Sort
+
+abbrev pub kindsOf : Sort → List ℕ
+kindsOf Ends = ends
+kindsOf Undos = undoings
+kindsOf Settles = settles
+
+abbrev pub sorted : Sort → Treatment → Bool
+sorted Ends Settle = true
+sorted Ends Reject = true
+sorted Ends (Undo way) = false
+sorted Undos Settle = false
+sorted Undos Reject = false
+sorted Undos (Undo way) = true
+sorted Settles Settle = true
+sorted Settles Reject = false
+sorted Settles (Undo way) = false
+
+-- an action that treats the collection c in a way of a sort
+abbrev pub treats : Sort → ℕ → Action → Bool
+treats sort c (AddCreditor a b) = false
+treats sort c (AddMandate m) = false
+treats sort c (ChangeMandate n x) = false
+treats sort c (Collect p) = false
+treats sort c (Treat n t) = eqb n c && sorted sort t
+
+and-false : (b : Bool) → b && false ≡ false
+and-false true = refl
+and-false false = refl
+
+module _ (sort : Sort) (c : ℕ) (e : Event) where
+  -- the test by the kind of the event
+  abbrev named : ℕ → Bool
+  named kind = eqb (e .a) c && among (kindsOf sort) kind
+
+  not-counted : (kind : ℕ) → e .kind ≡ kind → ((s : Sort) → among (kindsOf s) kind ≡ false) → treats sort c (actionOf e) ≡ false → named (e .kind) ≡ treats sort c (actionOf e)
+  not-counted kind h none t =
+      ap named h ∙ ap (λ (b : Bool). eqb (e .a) c && b) (none sort) ∙ and-false (eqb (e .a) c) ∙ sym t
+
+  counted : (kind : ℕ) (t : Treatment) → e .kind ≡ kind → ((s : Sort) → among (kindsOf s) kind ≡ sorted s t) → actionOf e ≡ Treat (e .a) t → named (e .kind) ≡ treats sort c (actionOf e)
+  counted kind t h same a =
+      ap named h ∙ ap (λ (b : Bool). eqb (e .a) c && b) (same sort) ∙ sym (ap (treats sort c) a)
+
+-- each sort at once
+every-sort : (P : Sort → Type 0) → P Ends → P Undos → P Settles → (s : Sort) → P s
+every-sort P a b c Ends = a
+every-sort P a b c Undos = b
+every-sort P a b c Settles = c
+
+module _ (sort : Sort) (c : ℕ) (e : Event) (m : Limited e) where
+  none-at : (kind : ℕ) → among ends kind ≡ false → among undoings kind ≡ false → among settles kind ≡ false → (s : Sort) → among (kindsOf s) kind ≡ false
+  none-at kind = every-sort (λ s. among (kindsOf s) kind ≡ false)
+
+  same-at : (kind : ℕ) (t : Treatment) → among ends kind ≡ sorted Ends t → among undoings kind ≡ sorted Undos t → among settles kind ≡ sorted Settles t → (s : Sort) → among (kindsOf s) kind ≡ sorted s t
+  same-at kind t = every-sort (λ s. among (kindsOf s) kind ≡ sorted s t)
+
+  counted-by-kind : named sort c e (e .kind) ≡ treats sort c (actionOf e)
+  counted-by-kind =
+      kind-cases (named sort c e (e .kind) ≡ treats sort c (actionOf e)) (e .kind) (m .kind) (
+        λ h. not-counted sort c e 1 h (none-at 1 refl refl refl) (ap (treats sort c) (action-creditor e h)),
+        (
+          λ h. not-counted sort c e 2 h (none-at 2 refl refl refl) (ap (treats sort c) (action-mandate e h)),
+          (
+            λ h. not-counted sort c e 3 h (none-at 3 refl refl refl) (ap (treats sort c) (action-amend e h)),
+            (
+              λ h. not-counted sort c e 4 h (none-at 4 refl refl refl) (ap (treats sort c) (action-cancel e h)),
+              (
+                λ h. not-counted sort c e 5 h (none-at 5 refl refl refl) (ap (treats sort c) (action-collect e h)),
+                (
+                  λ h. counted sort c e 6 Settle h (same-at 6 Settle refl refl refl) (action-settle e h),
+                  (
+                    λ h. counted sort c e 7 Reject h (same-at 7 Reject refl refl refl) (action-reject e h),
+                    (
+                      λ h. counted sort c e 8 (Undo ByReturn) h (same-at 8 (Undo ByReturn) refl refl refl) (action-return e h),
+                      (
+                        λ h. counted sort c e 9 _ h (same-at 9 (Undo (ByRefund (e .b) (e .code))) refl refl refl) (action-refund e h),
+                        (λ h. counted sort c e 10 (Undo ByReversal) h (same-at 10 (Undo ByReversal) refl refl refl) (action-reversal e h), tt),
+                      ),
+                    ),
+                  ),
+                ),
+              ),
+            ),
+          ),
+        ),
+      )
+
+-- an event within its limits counts by its kind as its action does
+pub counted-action : (sort : Sort) (c : ℕ) (e : Event) → checked e ≡ Within → eqb (e .a) c && among (kindsOf sort) (e .kind) ≡ treats sort c (actionOf e)
+counted-action sort c e h = counted-by-kind sort c e (checked-facts e h)
