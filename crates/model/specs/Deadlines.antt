@@ -1,5 +1,5 @@
--- Document 01, "Ten events": the kept due, the last days from the settled day, the lapse of a mandate. The ledger and the
--- journal use the same definitions. Assumes nothing.
+-- Document 01, "Ten events": the kept due, the last days from the settled day, the lapse of a mandate. What an
+-- error here is caught by is worded in specs/Promises and specs/Journal. Assumes nothing.
 use mathlib.Core.Bool.{Bool, cond, not, _&&_}
 use Prim.Native.Nat.{ℕ, _-_}
 use lib.Dec.{eqb}

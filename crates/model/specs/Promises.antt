@@ -79,6 +79,12 @@ pub record NotAfter (date : ℕ) (limit : DateAnswer) : Type 0 where
   pub is : limit ≡ Date last
   pub not-after : date ≤ last
 
+-- refusal 13: the requested date is not after the 14th calendar day after the event date, and the event date not after the last
+-- business day before the kept due
+pub record InGoodTime (date requested : ℕ) : Type 0 where
+  pub soon : NotAfter requested (daysAfter (record { 0 = 14 }) date)
+  pub early : NotAfter date (lastBusinessDayBefore (keptDue requested))
+
 -- ---- an accepted event, by the journal just before it
 
 -- an undoing: the settle was accepted before, and the date is not after the last day by the journal's S
@@ -88,7 +94,7 @@ pub record UndoneInTime (before : List Entry) (e : Event) : Type 0 where
   pub is-noted : journal before .collections (e .a) ≡ known collection
   pub in-time : NotAfter (e .date) (lastDayFrom (e .kind) (e .code) (collection .settled))
 
--- a collect: the mandate was neither closed nor cancelled, nor lapsed for its kept due
+-- a collect: it came in good time, and the mandate was neither closed nor cancelled, nor lapsed for its kept due
 pub record CollectedLive (before : List Entry) (e : Event) : Type 0 where
   pub mandate : NotedMandate
   pub is-noted : journal before .mandates (e .mandate) ≡ known mandate
@@ -96,6 +102,7 @@ pub record CollectedLive (before : List Entry) (e : Event) : Type 0 where
   pub due : ℕ
   pub is-due : firstBusinessDay (e .second) ≡ Date due
   pub not-lapsed : NotAfter due (lapseFrom mandate)
+  pub in-time : InGoodTime (e .date) (e .second)
 
 -- ---- the claim about a list of events given to a ledger
 
@@ -132,13 +139,7 @@ Demand3 =
 
 -- ---- the time of a collect
 
--- refusal 13: the requested date is not after the 14th calendar day after the event date, and the event date not after the last
--- business day before the kept due
-pub record InGoodTime (date requested : ℕ) : Type 0 where
-  pub soon : NotAfter requested (daysAfter (record { 0 = 14 }) date)
-  pub early : NotAfter date (lastBusinessDayBefore (keptDue requested))
-
--- dates in range pass exactly then
+-- dates in range pass refusal 13 exactly then
 pub record PassesInGoodTime (date requested : ℕ) : Type 0 where
   pub then : timely date requested ≡ true → InGoodTime date requested
   pub only-then : InGoodTime date requested → timely date requested ≡ true
@@ -157,9 +158,11 @@ MandatesNotAsked =
 
 -- ---- unused rows
 
--- a table after a call: of its old size, and no cell past the rows then used was written
+-- a table after a call: of its old size, with one more row used at most, and no cell past the rows then used was written
 pub record UnusedKept (cells : List ℕ) (used : ℕ) (cells' : List ℕ) (used' : ℕ) : Type 0 where
   pub same-length : length cells' ≡ length cells
+  pub none-lost : used ≤ used'
+  pub one-more : used' ≤ used + 1
   pub same-cells : (i : ℕ) → used' * stride ≤ i → getD cells' i 0 ≡ getD cells i 0
 
 pub record BothUnusedKept (l l' : Ledger) : Type 0 where

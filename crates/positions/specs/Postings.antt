@@ -1,5 +1,5 @@
 -- What an event of money posts. Document 01, "Postings"; A is the amount of the collection and K the compensation.
--- The effect on the tables and the journal both take these amounts. Assumes nothing.
+-- The effect on the tables takes these amounts; the journal has its own words. Assumes nothing.
 use Prim.Native.Nat.{ℕ, _+_}
 use lib.IntN.{ℤ, pos, negℤ, _+ℤ_}
 use Rattle.positions.specs.declared.Postings.{Postings}

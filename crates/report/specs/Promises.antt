@@ -1,8 +1,9 @@
--- What is promised of a run, as statements. proofs/Laws/Run and Laws/Program have the proofs. Assumes nothing.
+-- What is promised of a run, as statements. proofs/Laws/Lines, Laws/Run and Laws/Program have the proofs. Assumes nothing.
 use mathlib.Core.Path.{_≡_}
-use mathlib.Core.Bool.{true}
+use mathlib.Core.Bool.{true, cond, _&&_}
 use mathlib.Core.List.{List, [], _∷_, _++_}
 use Prim.Native.Nat.{ℕ, _+_}
+use lib.Dec.{ltb}
 use lib.ListN.{length}
 use Rattle.tables.specs.Ledger.{Ledger}
 use Rattle.tables.specs.Fitness.{sizesFit}
@@ -10,7 +11,8 @@ use Rattle.tables.specs.Opening.{opened}
 use Rattle.model.specs.Step.{run, history}
 use Rattle.model.specs.Journal.{journal}
 use Rattle.model.specs.Promises.{Kept}
-use Rattle.report.specs.Run.{Run, runAt, takeText, toldText, endLines, endTold, endText, toldEnd, toldPositions, toldJournal}
+use Rattle.report.specs.Layout.{answerLine}
+use Rattle.report.specs.Run.{Run, runAt, takeText, toldText, endLines, endText, toldEnd, toldPositions, toldJournal}
 use Rattle.report.specs.Lines.{answeredLines, lastPiece, eventsOf, answersOf, toldAnswers, historyOf}
 
 -- ---- a text, from any ledger on: for each line, in order, its number and its answer is written; the ledger is the one after the
@@ -23,7 +25,9 @@ pub record LinesTold (l : Ledger) (n : ℕ) (text : List ℕ) (lines : List (Lis
   pub accepted : history l (eventsOf lines) ≡ historyOf lines (answersOf l lines)
   -- a last piece that is not empty is a line refused 1, and the ledger stays as it is
   pub end-after : endText r ≡ runAt (r .book) (endLines (r .lines) (length (lastPiece text))) []
-  pub end-told : toldEnd r ≡ endTold (r .lines) (length (lastPiece text))
+  pub end-told :
+      toldEnd r
+      ≡ cond (ltb (r .lines) 999999 && ltb 0 (length (lastPiece text))) (answerLine (r .lines + 1) 1) []
 
 abbrev pub LineByLine : Type 0
 LineByLine = (l : Ledger) (n : ℕ) (text : List ℕ) → LinesTold l n text (answeredLines n text) (takeText (runAt l n []) text)

@@ -156,12 +156,14 @@ collections-grown = collections-after Grown grown-same grown-anew grown-put-next
 -- ---- no cell of an unused row is written
 
 unused-same : (cells : List ℕ) (used : ℕ) → UnusedKept cells used cells used
-unused-same cells used = record { same-length = refl; same-cells = λ i h. refl }
+unused-same cells used = record { same-length = refl; none-lost = omega arith; one-more = omega arith; same-cells = λ i h. refl }
 
 unused-anew : (cells : List ℕ) (used n row : ℕ) (fields : List ℕ) → length fields ≡ stride → lookup cells used n ≡ At row → getD fields 0 0 ≡ numberAt cells row → UnusedKept cells used (putRow stride cells row fields) used
 unused-anew cells used n row fields len f e =
     record {
       same-length = length-put stride cells row fields;
+      none-lost = omega arith;
+      one-more = omega arith;
       same-cells = λ i h. cell-put-unused stride cells row fields len used i (lookup-used cells used n row f) h;
     }
 
@@ -169,6 +171,8 @@ unused-next : (cells : List ℕ) (used : ℕ) (fields : List ℕ) → length fie
 unused-next cells used fields len =
     record {
       same-length = length-put stride cells used fields;
+      none-lost = omega arith;
+      one-more = omega arith;
       same-cells = λ i h. cell-put-unused stride cells used fields len (used + 1) i (omega arith) h;
     }
 

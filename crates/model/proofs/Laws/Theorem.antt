@@ -60,7 +60,7 @@ use Rattle.model.proofs.Laws.Wordings.Sort.{Ends, Undos, Settles}
 use Rattle.model.proofs.Laws.Agree.{notedKnown, endsOf, undosOf, settlesOf, inKnown, Agrees}
 use Rattle.model.proofs.Laws.KeptTreatments.{noted-there}
 use Rattle.model.proofs.Laws.Invariant.{Sane, sane-kept, undo-facts}
-use Rattle.model.proofs.Laws.Limits.{passed-limit, last-day-found, last-day-return, last-day-refund, last-day-reversal, lapse-found}
+use Rattle.model.proofs.Laws.Limits.{passed-limit, last-day-found, last-day-return, last-day-refund, last-day-reversal, lapse-found, timing}
 use Rattle.model.proofs.Laws.Lists.{journal-more, times-more, AllPast, past-at}
 use Rattle.model.proofs.Laws.Sums.{sumTo-same, sumTo-total}
 
@@ -218,9 +218,9 @@ module _ (l : Ledger) (h : List Entry) (s : Past l h) (e : Event) where
       undone-by ByReversal (λ d r. last-day-reversal d (e .code) r ∙ ap (λ (n : ℕ). lastDayFrom n (e .code) d) (sym i))
       (subst (Passed l (e .date)) (action-reversal e i) p))
 
-  collected-live : inRange (e .second) ≡ true → Passed l (e .date) (Collect (presentation e)) → CollectedLive h e
+  collected-live : inRange (e .date) ≡ true → inRange (e .second) ≡ true → Passed l (e .date) (Collect (presentation e)) → CollectedLive h e
   unfolding notedOf keptDue lapseEnd
-  collected-live r q =
+  collected-live d r q =
       let t = mandate-there l (e .mandate) (sane .safe .fits) (q .there) in
       let k = kept-due (e .second) r in
       let f = lapse-found (t .mandate .presented) (t .mandate .signed) (t .fits .presented-date) (t .fits .signed-date) in
@@ -232,6 +232,7 @@ module _ (l : Ledger) (h : List Entry) (s : Past l h) (e : Event) where
         due = k .date;
         is-due = k .is;
         not-lapsed = passed-limit (k .date) (f .date) (lapseFrom (notedOf (t .mandate))) (f .is) (rw (k .is) at g);
+        in-time = timing (e .date) (e .second) d r .then (q .time);
       }
 
 in-turn : (l : Ledger) (h : List Entry) (e : Event) → Past l h → InTurn h (last l e)
@@ -244,7 +245,8 @@ in-turn l h e s =
       undone = λ a i. undone-in-time l h s e (pass a .1) i;
       collected =
           λ a i.
-          collected-live l h s e (subst Sound (action-collect e i) (sound-event e (pass a .0) .1) .requested)
+          let o = sound-event e (pass a .0) in
+          collected-live l h s e (o .0) (subst Sound (action-collect e i) (o .1) .requested)
           (subst (Passed l (e .date)) (action-collect e i) (pass a .1));
     }
 
