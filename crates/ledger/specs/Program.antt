@@ -2,16 +2,17 @@
 -- positions. Assumes nothing.
 use mathlib.Core.Path.{_≡_}
 use mathlib.Core.Bool.{true}
-use mathlib.Core.List.{List}
-use Prim.Native.Nat.{ℕ}
+use mathlib.Core.List.{List, [], _++_}
+use Prim.Native.Nat.{ℕ, _+_, _≤_}
 use lib.ListN.{length, take}
 use Rattle.events.specs.Line.{pasted}
 use Rattle.tables.specs.Rows.{rows}
 use Rattle.tables.specs.Ledger.{Ledger}
-use Rattle.tables.specs.Fitness.{sizesFit}
+use Rattle.tables.specs.Fitness.{sizesFit, fit}
 use Rattle.tables.specs.Opening.{opened}
 use Rattle.model.specs.Journal.{Journal, journal}
-use Rattle.report.specs.Run.{endTold, toldPositions, toldJournal}
+use Rattle.report.specs.Layout.{answerLength}
+use Rattle.report.specs.Run.{runAt, takeText, endTold, toldEnd, toldPositions, toldJournal, listingRoom}
 use Rattle.report.specs.Lines.{answeredLines, answersOf, historyOf}
 
 -- ---- the start
@@ -32,16 +33,24 @@ pub record Begins (l : Ledger) : Type 0 where
 
 -- ---- the end
 
--- what is told where the input ends: the answer to a line that has begun, and then, written over it, the positions
+-- the memory is fit, and the buffer has room for an answer and the longest listing
+pub record LastRoom (l : Ledger) (out : List ℕ) : Type 0 where
+  pub fits : fit l ≡ true
+  pub room : answerLength + listingRoom ≤ length out
+
+-- what is told where the input ends: the answer to a line that has begun, and the positions
+abbrev pub toldLast : Ledger → ℕ → ℕ → List ℕ
+toldLast l lines begun = endTold lines begun ++ toldPositions l
+
 pub record Finished (l : Ledger) (lines begun : ℕ) (out : List ℕ) (bytes : ℕ) (out' : List ℕ) : Type 0 where
-  pub bytes-are : bytes ≡ length (toldPositions l)
-  pub out-is : out' ≡ pasted 0 (toldPositions l) (pasted 0 (endTold lines begun) out)
+  pub bytes-are : bytes ≡ length (toldLast l lines begun)
+  pub out-is : out' ≡ pasted 0 (toldLast l lines begun) out
 
 -- the journal of a text, by its lines and the answers to them
 abbrev pub journalOf : Ledger → List (List ℕ) → Journal
 journalOf l lines = journal (historyOf lines (answersOf l lines))
 
--- there is an input, and the first bytes of the buffer show its journal's figures
+-- there is an input, and the first bytes of the buffer answer what stands behind its last line and show its journal's figures
 pub record Shown (l : Ledger) (bytes : ℕ) (out : List ℕ) : Type 0 where
   pub input : List ℕ
-  pub listing : take bytes out ≡ toldJournal (journalOf l (answeredLines 0 input))
+  pub last : take bytes out ≡ toldEnd (takeText (runAt l 0 []) input) ++ toldJournal (journalOf l (answeredLines 0 input))

@@ -8,9 +8,9 @@ ghost use Prim.Native.Nat.{_*_, _≤_};
 ghost use lib.ListN.{length};
 ghost use Rattle.tables.specs.Ledger.{ledger};
 ghost use Rattle.report.specs.Layout.{answerLength};
-ghost use Rattle.report.specs.Run.{runAt, listed};
+ghost use Rattle.report.specs.Run.{runAt};
 ghost use Rattle.ledger.specs.Input.{Behind, Given, Turned, Taken};
-ghost use Rattle.ledger.specs.Program.{Begins, Finished, Shown};
+ghost use Rattle.ledger.specs.Program.{Begins, LastRoom, Finished, Shown};
 use book::text::take_text;
 use libc::STDIN_FILENO;
 use libc::STDOUT_FILENO;
@@ -151,7 +151,7 @@ fn take_input(
     p
 }
 
-// Answers a line that has begun where the input ends, and lists the positions; gives the bytes of the listing.
+// Answers a line that has begun where the input ends, and lists the positions behind; gives the bytes of both.
 fn finish(
     p: Progress,
     out: &mut [u8],
@@ -162,12 +162,12 @@ fn finish(
     debtor_positions: &[i64],
     bank_positions: &[i64],
 ) -> usize
-    requires { ⌜ listed (ledger (p .header) (now mandates) (now collections) (now creditors) (now «creditor_positions») (now «debtor_positions») (now «bank_positions»)) (now out) ≡ true ⌝ }
+    requires { ⌜ LastRoom (ledger (p .header) (now mandates) (now collections) (now creditors) (now «creditor_positions») (now «debtor_positions») (now «bank_positions»)) (now out) ⌝ }
     ensures { λ r. ⌜ Finished (ledger (p .header) (now (mandates .entry)) (now (collections .entry)) (now (creditors .entry)) (now («creditor_positions» .entry)) (now («debtor_positions» .entry)) (now («bank_positions» .entry))) (p .lines) (p .begun) (now (out .entry)) r (now (out .exit)) ⌝ }
 {
     let header = p.header;
     let end = end_text(p.lines, p.begun, out);
-    let heard = tell(p.heard, out, end.told);
+    let told = end.told;
     let listing = list_positions(
         header,
         mandates,
@@ -176,13 +176,14 @@ fn finish(
         creditor_positions,
         debtor_positions,
         bank_positions,
-        out,
+        &mut out[told..],
     );
-    tell(heard, out, listing.bytes);
-    listing.bytes
+    let bytes = told + listing.bytes;
+    tell(p.heard, out, bytes);
+    bytes
 }
 
-// The lines of the input, and then the positions, by a text and a buffer for answers; gives the bytes of the listing.
+// The lines of the input, and then the positions, by a text and a buffer for answers; gives the bytes told last.
 fn run_by(
     header: Header,
     text: &mut [u8; TEXT],

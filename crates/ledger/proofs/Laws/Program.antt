@@ -1,15 +1,17 @@
--- Laws of specs/Program. To cite: `begins-opened`, `rows-lent`; `ending-told`, `finished-made`, `finished-told`; `listed-after`,
+-- Laws of specs/Program. To cite: `begins-opened`, `rows-lent`; `last-inside`, `last-total`, `finished-made`, `finished-told`; `room-after`,
 -- `shown-after`. Assumes nothing.
-use mathlib.Core.Path.{_≡_, refl, sym, ap, _∙_}
-use mathlib.Core.Bool.{true, false, cond}
-use mathlib.Core.List.{List, []}
+use mathlib.Core.Path.{_≡_, refl, sym, ap, subst, _∙_}
+use mathlib.Core.Bool.{Bool, true, false, cond}
+use mathlib.Core.List.{List, [], _++_, append-nil}
 use mathlib.Core.Logic.{⊎-elim}
-use Prim.Native.Nat.{ℕ, _+_, _/_, _≤_}
+use Prim.Native.Nat.{ℕ, _+_, _-_, _/_, _≤_}
 use native.Mathlib.Omega.{arith}
-use borrow.Author.Tests.{le-leb, leb-true}
+use borrow.Author.Tests.{le-leb}
+use borrow.Rule.Slice.PartAt.{part-to-end}
+use borrow.Rule.Slice.PartMut.{putMid, post-is}
 use lib.IntN.{ℤ}
-use lib.ListN.{length, take, drop, replicate, length-replicate}
-use lib.Seq.{take-append-seam}
+use lib.ListN.{length, take, drop, replicate, length-replicate, length-append, length-drop}
+use lib.Seq.{take-append-seam, drop-length, drop-drop, length-take-le}
 use Rattle.common.proofs.Tests.{true-or-false, true-unless, and-true, and-halves}
 use Rattle.events.specs.Line.{pasted}
 use Rattle.tables.specs.declared.OpenAnswer.{OpenAnswer}
@@ -23,14 +25,16 @@ use Rattle.model.specs.declared.QueryAnswer.the-variants.{Figure}
 use Rattle.model.specs.Step.{query}
 use Rattle.report.specs.declared.ending.Ending.{Ending}
 use Rattle.report.specs.declared.listing.Listing.{Listing}
-use Rattle.report.specs.Layout.{answerLength}
-use Rattle.report.specs.Run.{Run, runAt, takeText, endTold, endFits, EndTaken, toldPositions, listingRoom, listed, Listed}
+use Rattle.report.specs.Layout.{answerLength, answerLine}
+use Rattle.report.specs.Run.{Run, runAt, takeText, endsLine, endTold, toldEnd, endFits, EndTaken, toldPositions, listingRoom, listed, Listed}
 use Rattle.report.specs.Lines.{answeredLines}
 use Rattle.report.specs.Promises.{TextKept}
 use Rattle.report.proofs.Laws.Lines.{line-by-line}
+use Rattle.report.proofs.Laws.Layout.{length-answerLine, pasted-pasted}
+use Rattle.report.proofs.Laws.Listing.{length-toldPositions}
 use Rattle.report.proofs.Laws.Program.{program-kept}
 use Rattle.ledger.specs.Input.{Taken}
-use Rattle.ledger.specs.Program.{mandateRows, collectionRows, Begins, Finished, Shown}
+use Rattle.ledger.specs.Program.{mandateRows, collectionRows, Begins, LastRoom, toldLast, Finished, Shown}
 use Rattle.ledger.proofs.Laws.Input.{front-length}
 
 -- ---- the start
@@ -59,51 +63,78 @@ rows-lent n = ap (λ (k : ℕ). k / stride) (length-replicate {A = ℕ} n 0)
 
 -- ---- the end
 
-pub ending-told : (lines begun : ℕ) (out : List ℕ) (r : Ending) (out' : List ℕ) → EndTaken lines begun out r out' → r .told ≤ length out'
-ending-told lines begun out r out' t =
-    let x = endTold lines begun in
-    ⊎-elim
-    (λ (e : endFits out ≡ true).
-    let n : r .told ≡ length x = rw e at (t .told-is) in
-    let o : out' ≡ pasted 0 x out = rw e at (t .out-is) in
-    omega (arith, n, ap length o, front-length x out))
-    (λ (e : endFits out ≡ false). let n : r .told ≡ 0 = rw e at (t .told-is) in omega arith)
-    (true-or-false (endFits out))
+last-short : (lines begun : ℕ) → length (endTold lines begun) ≤ answerLength
+last-short lines begun = by-test (endsLine lines begun)
+  where
+    by-test : (b : Bool) → length (cond b (answerLine (lines + 1) 1) []) ≤ answerLength
+    by-test true = omega (arith, length-answerLine (lines + 1) 1)
+    by-test false = omega arith
 
--- a buffer with room for the listing has room for an answer
-listed-ends : (l : Ledger) (out : List ℕ) → listed l out ≡ true → endFits out ≡ true
-unfolding listed
-listed-ends l out h =
-    let n = leb-true listingRoom (length out) (and-halves (fit l) h .1) in
-    le-leb answerLength (length out) (omega arith)
+module _ (l : Ledger) (lines begun : ℕ) (out : List ℕ) (h : LastRoom l out) (e : Ending) (out' : List ℕ) (t : EndTaken lines begun out e out') where
+  ends : endFits out ≡ true
+  ends = le-leb answerLength (length out) (omega (arith, h .room))
 
--- and so has one of the same length
-listed-long : (l : Ledger) (out out' : List ℕ) → length out' ≡ length out → listed l out ≡ true → listed l out' ≡ true
-unfolding listed
-listed-long l out out' e h = rw e h
+  told-is : e .told ≡ length (endTold lines begun)
+  told-is = rw ends at (t .told-is)
 
-pub finished-made : (l : Ledger) (lines begun : ℕ) (out : List ℕ) (e : Ending) (out' : List ℕ) (r : Listing) (out'' : List ℕ)
-    → listed l out ≡ true
-    → EndTaken lines begun out e out'
-    → length out' ≡ length out
-    → Listed l out' r out''
-    → Finished l lines begun out (r .bytes) out''
-finished-made l lines begun out e out' r out'' h t n s =
-    let f = listed-ends l out h in
-    let g = listed-long l out out' n h in
-    let o : out' ≡ pasted 0 (endTold lines begun) out = rw f at (t .out-is) in
-    record { bytes-are = rw g at (s .bytes-are); out-is = rw (g, o) at (s .out-is) }
+  answered-is : out' ≡ pasted 0 (endTold lines begun) out
+  answered-is = rw ends at (t .out-is)
+
+  pub last-inside : e .told ≤ length out'
+  last-inside = omega (arith, told-is, ap length answered-is, front-length (endTold lines begun) out)
+
+  module _ (same : length out' ≡ length out) (r : Listing) (part : List ℕ) (s : Listed l (take (length out' - e .told) (drop (e .told) out')) r part) where
+    abbrev behind : List ℕ
+    behind = drop (e .told) out'
+
+    rest-is : take (length out' - e .told) behind ≡ behind
+    rest-is = part-to-end out' (e .told)
+
+    listing-fits : listed l behind ≡ true
+    unfolding listed
+    listing-fits =
+        let n = length-drop (e .told) out' in
+        and-true (h .fits) (le-leb listingRoom (length behind) (omega (arith, h .room, same, told-is, last-short lines begun)))
+
+    taken : Listed l behind r part
+    taken = subst (λ (x : List ℕ). Listed l x r part) rest-is s
+
+    bytes-are : r .bytes ≡ length (toldPositions l)
+    bytes-are = rw listing-fits at (taken .bytes-are)
+
+    part-is : part ≡ pasted 0 (toldPositions l) behind
+    part-is = rw listing-fits at (taken .out-is)
+
+    pub last-total : e .told + r .bytes ≤ answerLength + listingRoom
+    last-total = omega (arith, told-is, last-short lines begun, bytes-are, length-toldPositions l)
+
+    -- the buffer with the listing behind the answer
+    pub finished-made : Finished l lines begun out (e .told + r .bytes) (putMid (e .told) (length out' - e .told) out' part)
+    finished-made =
+        let x = endTold lines begun in
+        let y = toldPositions l in
+        let z : length x ≡ 0 + length x = omega arith in
+        let w : 0 + length y ≡ length y = omega arith in
+        record {
+          bytes-are = ap (λ (n : ℕ). n + r .bytes) told-is ∙ ap (λ (n : ℕ). length x + n) bytes-are ∙ sym (length-append x y);
+          out-is =
+              ap (λ (z : List ℕ). take (e .told) out' ++ (part ++ z)) (post-is (e .told) (length out') out' last-inside ∙ drop-length out')
+              ∙ ap (λ (z : List ℕ). take (e .told) out' ++ z) (append-nil part ∙ part-is)
+              ∙ ap (λ (z : List ℕ). take (e .told) out' ++ (y ++ z)) (ap (λ (n : ℕ). drop n behind) w ∙ drop-drop (length y) (e .told) out')
+              ∙ ap (λ (n : ℕ). pasted n y out') told-is
+              ∙ ap (pasted (length x) y) answered-is
+              ∙ ap (λ (n : ℕ). pasted n y (pasted 0 x out)) z
+              ∙ pasted-pasted 0 x out y (omega arith);
+        }
 
 module _ (l : Ledger) (lines begun : ℕ) (out : List ℕ) (bytes : ℕ) (out' : List ℕ) (f : Finished l lines begun out bytes out') where
   pub finished-told : bytes ≤ length out'
-  finished-told =
-      omega (arith, f .bytes-are, ap length (f .out-is), front-length (toldPositions l) (pasted 0 (endTold lines begun) out))
+  finished-told = omega (arith, f .bytes-are, ap length (f .out-is), front-length (toldLast l lines begun) out)
 
-  finished-front : take bytes out' ≡ toldPositions l
+  finished-front : take bytes out' ≡ toldLast l lines begun
   finished-front =
-      let x = toldPositions l in
-      rw (f .bytes-are, f .out-is)
-      (take-append-seam x (drop (0 + length x) (pasted 0 (endTold lines begun) out)))
+      let x = toldLast l lines begun in
+      rw (f .bytes-are, f .out-is) (take-append-seam x (drop (0 + length x) out))
 
 -- ---- the whole run
 
@@ -120,19 +151,25 @@ module _ (l l' : Ledger) (lines begun : ℕ) (text : List ℕ) (b : Begins l) (t
   book-is : l' ≡ takeText (runAt l 0 []) (t .input) .book
   book-is = ap (λ (r : Run). r .book) (t .run-is)
 
-  pub listed-after : (out : List ℕ) → listingRoom ≤ length out → listed l' out ≡ true
-  unfolding listed
-  listed-after out h =
+  pub room-after : (out : List ℕ) → answerLength + listingRoom ≤ length out → LastRoom l' out
+  room-after out h =
       let e = line-by-line l 0 (t .input) .after in
       let f = answers-fit _ 4 0 _ (text-kept l b (t .input) .all-kept .figures 4 0 refl) in
-      and-true (ap fit (book-is ∙ e) ∙ f) (le-leb listingRoom (length out) h)
+      record { fits = ap fit (book-is ∙ e) ∙ f; room = h }
 
-  pub shown-after : (n k : ℕ) (out : List ℕ) (bytes : ℕ) (out' : List ℕ) → Finished l' n k out bytes out' → Shown l bytes out'
-  shown-after n k out bytes out' f =
+  -- the bytes of the line that has begun
+  last-is : endTold lines begun ≡ toldEnd (takeText (runAt l 0 []) (t .input))
+  last-is =
+      ap (endTold lines) (sym (length-take-le begun text (t .inside)))
+      ∙ ap toldEnd (t .run-is)
+
+  pub shown-after : (out : List ℕ) (bytes : ℕ) (out' : List ℕ) → Finished l' lines begun out bytes out' → Shown l bytes out'
+  shown-after out bytes out' f =
       record {
         input = t .input;
-        listing =
-            finished-front l' n k out bytes out' f
-            ∙ ap toldPositions book-is
-            ∙ text-kept l b (t .input) .listing;
+        last =
+            finished-front l' lines begun out bytes out' f
+            ∙ ap (λ (x : List ℕ). x ++ toldPositions l') last-is
+            ∙ ap (λ (x : List ℕ). toldEnd (takeText (runAt l 0 []) (t .input)) ++ x)
+            (ap toldPositions book-is ∙ text-kept l b (t .input) .listing);
       }

@@ -1,5 +1,7 @@
--- `finish` meets its contract: the memory is fit and the buffer has room, so answer and listing are written. Assumes nothing.
-use Rattle.ledger.proofs.Laws.Program.{ending-told, finished-made, finished-told}
+-- `finish` meets its contract: the memory is fit and the buffer has room, so the answer is written, and the listing behind it.
+-- Assumes nothing.
+use Rattle.ledger.proofs.Laws.Program.{last-inside, last-total, finished-made, finished-told}
+use native.Mathlib.Omega.{arith}
 use borrow.Author.Needs.{needs}
 use Rattle.ledger.proofs.finish.Statement.{statement}
 use Rattle.ledger.proofs.finish.Tie as tie
@@ -7,34 +9,49 @@ use Rattle.ledger.proofs.finish.Tie as tie
 end-text-requires : tie.Need-end-text-requires
 end-text-requires c κs = search needs
 
-tell-requires : tie.Need-tell-requires
-tell-requires c κs = ending-told _ _ _ _ _ (c .before .before .before .end-text .ensures)
+sub-list-positions : tie.Need-sub-list-positions
+sub-list-positions c = last-inside _ _ _ _ (c .before .before .before .before .before .before .before .before .before .pre) _ _ (c .before .before .end-text .ensures)
+
+part-list-positions-start : tie.Need-part-list-positions-start
+part-list-positions-start c = last-inside _ _ _ _ (c .before .before .before .before .before .before .before .before .before .pre) _ _ (c .before .before .end-text .ensures)
+
+part-list-positions-end : tie.Need-part-list-positions-end
+part-list-positions-end c = search needs
 
 list-positions-requires : tie.Need-list-positions-requires
 list-positions-requires c κs = search needs
 
-tell-requires-2 : tie.Need-tell-requires-2
-tell-requires-2 c κs =
-    let end = c .before .before .before .before .before .before .before .before .before .end-text in
-    let made = finished-made _ _ _ _ _ _ _ _ (c .before .before .before .before .before .before .before .before .before .before .before .before .before .before .before .before .pre) (end .ensures) (end .kept .1 .1 .0) (c .before .before .before .list-positions .ensures) in
-    finished-told _ _ _ _ _ _ made
+add-bytes : tie.Need-add-bytes
+add-bytes c =
+    let s = c .before .before .before .before .before .before .before .before .before .before .before .before .before .before in
+    let end = c .before .before .before .before .before .before .before .end-text in
+    omega (arith, last-total _ _ _ _ (s .pre) _ _ (end .ensures) (end .kept .1 .1 .0) _ _ (c .before .before .before .list-positions .ensures))
+
+tell-requires : tie.Need-tell-requires
+tell-requires c κs =
+    let s = c .before .before .before .before .before .before .before .before .before .before .before .before .before .before .before in
+    let end = c .before .before .before .before .before .before .before .before .end-text in
+    finished-told _ _ _ _ _ _ (finished-made _ _ _ _ (s .pre) _ _ (end .ensures) (end .kept .1 .1 .0) _ _ (c .before .before .before .before .list-positions .ensures))
 
 same-length : tie.Need-same-length
 same-length c = search needs
 
 returns : tie.Need-returns
 returns c =
-    let end = c .before .before .before .before .before .before .before .before .before .before .end-text in
-    let made = finished-made _ _ _ _ _ _ _ _ (c .before .before .before .before .before .before .before .before .before .before .before .before .before .before .before .before .before .pre) (end .ensures) (end .kept .1 .1 .0) (c .before .before .before .before .list-positions .ensures) in
-    made
+    let s = c .before .before .before .before .before .before .before .before .before .before .before .before .before .before .before .before in
+    let end = c .before .before .before .before .before .before .before .before .before .end-text in
+    finished-made _ _ _ _ (s .pre) _ _ (end .ensures) (end .kept .1 .1 .0) _ _ (c .before .before .before .before .before .list-positions .ensures)
 
 pub finish-spec : {M : Type 1} → statement M
 finish-spec =
     tie.close
     (tie.spec
     end-text-requires
-    tell-requires
+    sub-list-positions
+    part-list-positions-start
+    part-list-positions-end
     list-positions-requires
-    tell-requires-2
+    add-bytes
+    tell-requires
     same-length
     returns)
