@@ -2,12 +2,13 @@
 // answer for each line, then the positions and the total compensation. It reads and writes; what the bytes mean, what is
 // answered to them and how that is written is in the libraries, proved.
 ghost use mathlib.Core.Path.{_≡_};
-ghost use mathlib.Core.Bool.{true, false};
+ghost use mathlib.Core.Bool.{true, false, _&&_};
 ghost use mathlib.Core.List.{[]};
 ghost use Prim.Native.Nat.{_*_, _≤_};
+ghost use lib.Dec.{ltb};
 ghost use lib.ListN.{length};
 ghost use Rattle.tables.specs.Ledger.{ledger};
-ghost use Rattle.report.specs.Layout.{answerLength};
+ghost use Rattle.report.specs.Layout.{lastNumber, answerLength};
 ghost use Rattle.report.specs.Run.{runAt};
 ghost use Rattle.ledger.specs.Input.{Behind, Given, Turned, Taken};
 ghost use Rattle.ledger.specs.Program.{Begins, LastRoom, Finished, Shown};
@@ -103,6 +104,13 @@ fn take_piece(
     }
 }
 
+// Whether there may be more input to answer: a read that gave nothing was the last, and so was the last line.
+fn goes_on(begun: usize, filled: usize, lines: u64) -> bool
+    ensures { λ r. ⌜ r ≡ ltb begun filled && ltb lines lastNumber ⌝ }
+{
+    (begun < filled) & (lines < LINES)
+}
+
 // The whole input, piece by piece, until it ends, the last line is answered or nobody listens. A proved loop has to
 // end, and nothing says that the input does: so the loop counts its turns down from a number that no run uses up.
 fn take_input(
@@ -146,7 +154,7 @@ fn take_input(
             bank_positions,
         );
         p.heard = tell(p.heard, out, p.told);
-        more = (begun < filled) & (p.lines < LINES);
+        more = goes_on(begun, filled, p.lines);
     }
     p
 }

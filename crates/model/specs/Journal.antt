@@ -1,4 +1,4 @@
--- Document 01, "The journal". It is fed each event and whether it was accepted, and nothing from the tables. Each bullet is said
+-- Document 01, "The journal": worked out from events and whether each was accepted; no table comes into it. Each bullet is said
 -- by the fields of the event and takes no rule from the ledger's step: neither how an action is read off the fields, nor what an
 -- effect does, nor what is posted. Shared are the calendar, compensation as a function of numbers, and the standings of a mandate.
 -- proofs/Laws/Wordings has the law that an event within its limits is noted as the step would have it. Assumes nothing.
@@ -51,7 +51,7 @@ pub record Journal : Type 0 where
   pub bankFigure : ℕ → ℤ
   pub compensation : ℤ
 
--- it begins empty, with a figure of 0 for each position
+-- before any event: nothing noted, every figure 0
 abbrev pub empty : Journal
 empty = record {
   banks = λ n. 0;
@@ -117,7 +117,7 @@ adding j k debtor creditor dbank cbank paid = record {
   compensation = j .compensation +ℤ paid;
 }
 
--- an event that needs what the journal lacks leaves it as it was
+-- where something is not noted, nothing is done
 abbrev pub needing : {A : Type 0} → Known A → Journal → (A → Journal) → Journal
 needing unknown j f = j
 needing (known a) j f = f a
@@ -136,7 +136,7 @@ remade m creditor bank standing presented = record {
   presented = presented;
 }
 
--- 2: live, with its creditor, debtor, debtor bank, signing date and code
+-- 2: a mandate by its fields
 unfoldable pub newNoted : Event → NotedMandate
 newNoted e = record {
   creditor = e .a;
@@ -169,12 +169,12 @@ dueOn NoDate = 0
 abbrev pub isLast : ℕ → Bool
 isLast code = eqb code 2 || eqb code 3
 
--- the kept due becomes the mandate's last presented; FNAL and OOFF close it
+-- the mandate after it: last presented on the kept due, and closed by a last collection
 unfoldable pub collectedOn : Event → NotedMandate → NotedMandate
 collectedOn e m =
     remade m (m .creditor) (m .bank) (cond (isLast (e .code)) Closed (m .standing)) (dueOn (firstBusinessDay (e .second)))
 
--- the collection, with the parties and both banks as the journal then has them
+-- the collection keeps the parties and banks that are noted now
 unfoldable pub notedCollection : Journal → Event → NotedMandate → NotedCollection
 notedCollection j e m = record {
   mandate = e .mandate;
@@ -252,7 +252,7 @@ noteKind kind j e =
 abbrev pub note : Journal → Event → Journal
 note j e = noteKind (e .kind) j e
 
--- ---- the journal of a history: a refused event leaves it as it was
+-- ---- the journal of a history; what was refused is passed over
 
 abbrev pub feed : Journal → Entry → Journal
 feed j x = cond (x .accepted) (note j (x .event)) j

@@ -107,23 +107,23 @@ pub record CollectedLive (before : List Entry) (e : Event) : Type 0 where
 -- ---- the claim about a list of events given to a ledger
 
 pub record Kept (l : Ledger) (es : List Event) : Type 0 where
-  -- every query within its limits is answered, with the journal's figure
+  -- the figures that are asked for are the journal's
   pub figures :
       (kind number : ℕ) → inQuery kind number ≡ true
       → query (run l es) kind number ≡ Figure (figureIn (journal (history l es)) kind number)
-  -- creditors plus debtors plus all compensation total zero, and so do the banks alone
+  -- both sums are zero: the parties with the compensation, and the banks
   pub parties :
       sumOf (run l es) 1 creditorCount +ℤ sumOf (run l es) 2 debtorCount +ℤ answered (query (run l es) 4 0) ≡ pos 0
   pub banks : sumOf (run l es) 3 bankCount ≡ pos 0
-  -- of all settles and rejections of one collection at most one was accepted
+  -- a collection ends once, by a settle or a rejection
   pub ended-once : (c : ℕ) → times ends c (history l es) ≤ 1
-  -- of all its returns, refunds and reversals at most one was, later than its settle and in time
+  -- and is undone once, after its settle and in time
   pub undone-once : (c : ℕ) → times undoings c (history l es) ≤ 1
   pub undone-in-time :
       (before later : List Entry) (x : Entry)
       → history l es ≡ before ++ (x ∷ later) → x .accepted ≡ true → among undoings (x .event .kind) ≡ true
       → UndoneInTime before (x .event)
-  -- no collect was accepted on a mandate that was cancelled, closed or, for that collect, lapsed
+  -- each accepted collect found its mandate live and not lapsed
   pub collected-live :
       (before later : List Entry) (x : Entry)
       → history l es ≡ before ++ (x ∷ later) → x .accepted ≡ true → x .event .kind ≡ 5

@@ -55,8 +55,8 @@ positionLength = 27
 
 -- ---- what is written: the largest numbers of 2, 3 and 6 columns, and a line that the buffer has room for
 
-abbrev pub lastKind : ℕ
-lastKind = 99
+abbrev pub widestKind : ℕ
+widestKind = 99
 
 abbrev pub lastAnswer : ℕ
 lastAnswer = 999
@@ -70,7 +70,7 @@ answerFits at number answer out =
 
 unfoldable pub positionFits : ℕ → ℕ → ℕ → ℤ → List ℕ → Bool
 positionFits at kind number cents out =
-    leb (at + positionLength) (length out) && leb kind lastKind && leb number lastNumber && within positionLimit cents
+    leb (at + positionLength) (length out) && leb kind widestKind && leb number lastNumber && within positionLimit cents
 
 abbrev pub placed : Bool → Placed
 placed fits = cond fits Written NoRoom

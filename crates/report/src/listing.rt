@@ -6,7 +6,7 @@ ghost use lib.ListN.{length};
 ghost use Rattle.positions.specs.Positions.{positionLimit, Within};
 ghost use Rattle.events.specs.Line.{pasted};
 ghost use Rattle.tables.specs.Ledger.{ledger};
-ghost use Rattle.report.specs.Layout.{positionLength, lastKind, lastNumber, positionFits};
+ghost use Rattle.report.specs.Layout.{positionLength, widestKind, lastNumber, positionFits};
 ghost use Rattle.report.specs.Run.{toldPosition, toldTable, Listed};
 use crate::layout::POSITION;
 use crate::layout::position_line;
@@ -42,7 +42,7 @@ fn list_one(out: &mut [u8], at: usize, kind: u64, number: u64, cents: i64) -> us
 
 // Writes the positions of a kind, from number 1 to the last of its table, and gives the place behind them.
 fn list_kind(out: &mut [u8], at: usize, kind: u64, positions: &[i64]) -> usize
-    requires { ⌜ (at + length (now positions) * positionLength ≤ length (now out)) × (kind ≤ lastKind) × (length (now positions) ≤ lastNumber) × Within positionLimit (now positions) ⌝ }
+    requires { ⌜ (at + length (now positions) * positionLength ≤ length (now out)) × (kind ≤ widestKind) × (length (now positions) ≤ lastNumber) × Within positionLimit (now positions) ⌝ }
     ensures place { λ r. ⌜ r ≡ at + length (toldTable kind (now (positions .entry)) (length (now (positions .entry)))) ⌝ }
     ensures bytes { λ _. ⌜ now (out .exit) ≡ pasted at (toldTable kind (now (positions .entry)) (length (now (positions .entry)))) (now (out .entry)) ⌝ }
 {

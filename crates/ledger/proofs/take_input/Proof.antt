@@ -53,6 +53,9 @@ tell-requires : tie.Need-tell-requires Inv-loop μ-loop
 tell-requires c κs =
     turned-told _ _ _ _ _ _ _ _ _ (c .before .before .before .before .before .before .before .before .before .before .before .before .before .before .take-piece .ensures)
 
+goes-on-requires : tie.Need-goes-on-requires Inv-loop μ-loop
+goes-on-requires c κs = search needs
+
 loop-less : tie.Need-loop-less Inv-loop μ-loop
 loop-less c =
     let at = c .before .before .before .before .before .before .before .before .before .before .before .before .before .before .before .before .before .before .before .before .before .before .before .before .before .before .before .before .before .before .before .loop in
@@ -112,6 +115,7 @@ take-input-spec =
     read-behind-requires
     take-piece-requires
     tell-requires
+    goes-on-requires
     loop-less
     loop-again
     same-length

@@ -24,7 +24,7 @@ use Rattle.positions.specs.Positions.{positionLimit, within}
 use Rattle.positions.proofs.Laws.Integers.{within-size, bits-back, minus-fits, minus-back}
 use Rattle.events.specs.Line.{blank, lastDigit, lineEnd, padded, fieldBytes, pasted}
 use Rattle.events.proofs.Laws.Line.{length-fieldBytes, still, still-store}
-use Rattle.report.specs.Layout.{minus, signOf, signedPadded, signedField, signedBytes, answerLine, answerLength, positionLine, positionLength, lastKind, lastAnswer, lastNumber, answerFits, positionFits}
+use Rattle.report.specs.Layout.{minus, signOf, signedPadded, signedField, signedBytes, answerLine, answerLength, positionLine, positionLength, widestKind, lastAnswer, lastNumber, answerFits, positionFits}
 
 -- ---- signedPadded, signedField
 
@@ -309,19 +309,19 @@ module _ (at kind number : ℕ) (cents : ℤ) (out : List ℕ) where
   pub positionFits-is : (room limit : Bool)
       → room ≡ leb (at + positionLength) (length out)
       → limit ≡ within positionLimit cents
-      → room && leb kind lastKind && leb number lastNumber && limit ≡ positionFits at kind number cents out
+      → room && leb kind widestKind && leb number lastNumber && limit ≡ positionFits at kind number cents out
   unfolding positionFits
   positionFits-is room limit e l =
-      ap (λ (b : Bool). b && leb kind lastKind && leb number lastNumber && limit) e
-      ∙ ap (λ (b : Bool). leb (at + positionLength) (length out) && leb kind lastKind && leb number lastNumber && b) l
+      ap (λ (b : Bool). b && leb kind widestKind && leb number lastNumber && limit) e
+      ∙ ap (λ (b : Bool). leb (at + positionLength) (length out) && leb kind widestKind && leb number lastNumber && b) l
 
   pub positionFits-facts :
       positionFits at kind number cents out ≡ true → (at + positionLength ≤ length out) × (within positionLimit cents ≡ true)
   unfolding positionFits
   positionFits-facts e =
       let room = leb (at + positionLength) (length out) in
-      let p = and-halves (room && leb kind lastKind && leb number lastNumber) e in
-      let q = and-halves (room && leb kind lastKind) (p .0) in
+      let p = and-halves (room && leb kind widestKind && leb number lastNumber) e in
+      let q = and-halves (room && leb kind widestKind) (p .0) in
       (leb-true (at + positionLength) (length out) (and-halves room (q .0) .0), p .1)
 
 -- ---- a field written from its right edge on: what stands in the buffer and what is still to come make up the whole

@@ -26,7 +26,7 @@ use Rattle.tables.specs.Ledger.{Ledger}
 use Rattle.tables.specs.Fitness.{fit, positionFit}
 use Rattle.tables.proofs.Laws.Fitness.{Fit, fit-facts, position-facts, compensation-facts, creditorsFit-at, positionsFit-at}
 use Rattle.model.specs.Step.{figureOf}
-use Rattle.report.specs.Layout.{positionLine, positionLength, lastKind, lastNumber, positionFits}
+use Rattle.report.specs.Layout.{positionLine, positionLength, widestKind, lastNumber, positionFits}
 use Rattle.report.specs.Run.{toldPosition, toldFigures, toldKind, toldPositions, toldTable, listingRoom, listed}
 use Rattle.report.proofs.Laws.Layout.{length-positionLine, length-pasted, pasted-next, positionFits-is}
 
@@ -146,14 +146,14 @@ module _ (at kind number : ℕ) (cents : ℤ) (out : List ℕ) where
       (record { place = omega (arith, length-positionLine kind number cents); bytes = e })
 
   pub positionFits-made :
-      at + positionLength ≤ length out → kind ≤ lastKind → number ≤ lastNumber → natAbs cents ≤ positionLimit
+      at + positionLength ≤ length out → kind ≤ widestKind → number ≤ lastNumber → natAbs cents ≤ positionLimit
       → positionFits at kind number cents out ≡ true
   positionFits-made r k n z =
       sym
       (positionFits-is at kind number cents out true true
       (sym (le-leb (at + positionLength) (length out) r))
       (sym (size-within positionLimit cents z)))
-      ∙ rw (le-leb kind lastKind k, le-leb number lastNumber n)
+      ∙ rw (le-leb kind widestKind k, le-leb number lastNumber n)
 
 -- ---- a table written number by number
 
@@ -161,7 +161,7 @@ module _ (at kind number : ℕ) (cents : ℤ) (out : List ℕ) where
 abbrev pub Ready : ℕ → ℕ → List ℤ → List ℕ → Type 0
 Ready at kind positions out =
     (at + length positions * positionLength ≤ length out)
-    × (kind ≤ lastKind)
+    × (kind ≤ widestKind)
     × (length positions ≤ lastNumber)
     × Within positionLimit positions
 

@@ -2,7 +2,7 @@
 use mathlib.Core.Path.{_≡_, refl, ap, sym, _∙_}
 use mathlib.Core.Bool.{Bool, true, false, _&&_}
 use lib.Dec.{leb}
-use Rattle.report.specs.Layout.{lastKind, lastNumber, positionFits, positionLine}
+use Rattle.report.specs.Layout.{widestKind, lastNumber, positionFits, positionLine}
 use Rattle.events.specs.Line.{pasted}
 use Rattle.positions.specs.Positions.{positionLimit, within}
 use lib.IntN.{ℤ}
@@ -23,7 +23,7 @@ back s = toZ-ofZ (s .fits .cents)
 
 -- the test of the code is the specification's
 fits : (c : tie.After-in-limit) (b : Bool)
-    → c .before .has-room .result && leb (start c .args .kind) lastKind && leb (start c .args .number) lastNumber && c .in-limit .result ≡ b
+    → c .before .has-room .result && leb (start c .args .kind) widestKind && leb (start c .args .number) lastNumber && c .in-limit .result ≡ b
     → positionFits (start c .args .at) (start c .args .kind) (start c .args .number) (start c .args .cents) (start c .args .out .now) ≡ b
 fits c b e =
     let a = start c .args in
