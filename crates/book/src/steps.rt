@@ -67,8 +67,8 @@ fn presentation_of(e: Event) -> Presentation
     }
 }
 
-// Events 1 to 5, which write records and post nothing. The mandate and the collection that the event names are looked for
-// from rows on.
+// Events 1 to 5, which write records and post nothing; what is left after 4 is 5, as no other kind comes here. The mandate and the
+// collection that the event names are looked for from rows on.
 fn record_event(
     header: Header,
     e: Event,
@@ -110,7 +110,6 @@ fn record_event(
             mandates,
             creditors,
         ),
-        // 5; no other kind comes here
         _ => collect(
             header,
             e.date,

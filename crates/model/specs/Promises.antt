@@ -2,7 +2,7 @@
 -- `Kept` has its parts, in the order in which they are demanded. proofs/Laws/Theorem has the proof.
 -- Then what is promised of one call: `Timing`, `MandatesNotAsked`, `UnusedRows`, and the answers in numbers. Assumes nothing.
 use mathlib.Core.Path.{_≡_}
-use mathlib.Core.Bool.{Bool, true, false, cond, _&&_}
+use mathlib.Core.Bool.{true, cond, _&&_}
 use mathlib.Core.List.{List, [], _∷_, _++_}
 use Prim.Native.Nat.{ℕ, zero, suc, _+_, _*_, _≤_}
 use lib.Dec.{eqb}

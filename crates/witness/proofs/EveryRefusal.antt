@@ -1,8 +1,8 @@
 -- Every refusal is given: answers and states are computed. To cite: `every-refusal`. Assumes nothing.
-use mathlib.Core.Path.{_≡_, refl, ap, _∙_}
+use mathlib.Core.Path.{_≡_, refl, ap}
 use mathlib.Core.Bool.{true}
 use Rattle.tables.specs.Ledger.{Ledger}
-use Rattle.tables.specs.Fitness.{sizesOf, sizesFit, fit}
+use Rattle.tables.specs.Fitness.{sizesOf, sizesFit}
 use Rattle.model.specs.Step.{query}
 use Rattle.model.specs.Lookups.{mandateOf, collectionOf}
 use Rattle.witness.specs.EveryRefusal.{small, cases, askedIn, stateIn, EveryRefusal, OutsideRefused}

@@ -1,6 +1,6 @@
 -- Laws of specs/Periods: what the answers are.
 -- To cite: the laws named F-day and F-none (from a date that there is, or is not), `monthsAfter-is`, `periodEnd-is`,
--- `periodEnd-day`, `isAfter-dateOf`, `isAfter-daysAfter`, `not-after-last`. Assumes nothing.
+-- `periodEnd-steps`, `periodEnd-day`, `isAfter-dateOf`, `isAfter-daysAfter`, `not-after-last`. Assumes nothing.
 use mathlib.Core.Path.{_≡_, refl, sym, ap, _∙_}
 use mathlib.Core.Bool.{Bool, true, false, cond, not, _&&_}
 use Prim.Native.Nat.{ℕ, _+_, _-_, _*_, _/_, _%_, _≤_, _<_}
@@ -12,7 +12,7 @@ use Rattle.common.proofs.Tests.{and-halves}
 use Rattle.calendar.specs.Gregorian.{year, month, dayOfMonth, dateOfParts, leapDay, monthLength, isDate, lastYear}
 use Rattle.calendar.specs.DayNumber.{calendarDays, dayNumber, dayOf, dateAt, dateOf}
 use Rattle.calendar.specs.Target.{firstOpen, openAfter, lastBusinessDayBefore}
-use Rattle.calendar.specs.Periods.{daysAfter, daysBetween, businessDaysAfter, monthCount, dayOfMonthCount, monthsAfter, periodEnd, isAfter}
+use Rattle.calendar.specs.Periods.{daysAfter, daysBetween, businessDaysAfter, monthCount, dayOfMonthCount, monthsAfter, andThen, periodEnd, isAfter}
 use Rattle.calendar.specs.declared.CalendarDays.{CalendarDays}
 use Rattle.calendar.specs.declared.BusinessDays.{BusinessDays}
 use Rattle.calendar.specs.declared.Months.{Months}
@@ -127,6 +127,11 @@ monthCount-is n x = refl
 -- ---- periodEnd
 
 module _ (p : Period) (x : ℕ) where
+  -- its three steps
+  pub periodEnd-steps : periodEnd p x ≡ andThen (andThen (monthsAfter (p .months) x) (daysAfter (p .days))) (businessDaysAfter (p .business))
+  unfolding periodEnd
+  periodEnd-steps = refl
+
   pub periodEnd-is : (m d : ℕ) → monthsAfter (p .months) x ≡ Date m → daysAfter (p .days) m ≡ Date d → periodEnd p x ≡ businessDaysAfter (p .business) d
   unfolding periodEnd
   periodEnd-is m d e f = rw (e, f)

@@ -1,5 +1,5 @@
 -- The answers in the paper's numbers. To cite: `limit-number`, `reader-number`, `writer-number`, `checked-line-number`. Assumes nothing.
-use mathlib.Core.Path.{_≡_, refl, ap, _∙_}
+use mathlib.Core.Path.{_≡_, refl, _∙_}
 use mathlib.Core.Bool.{Bool, true, false, cond, _&&_}
 use mathlib.Core.List.{List, [], _∷_}
 use Prim.Native.Nat.{ℕ}

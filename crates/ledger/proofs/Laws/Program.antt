@@ -3,16 +3,16 @@
 use mathlib.Core.Path.{_≡_, refl, sym, ap, subst, _∙_}
 use mathlib.Core.Bool.{Bool, true, false, cond}
 use mathlib.Core.List.{List, [], _++_, append-nil}
-use mathlib.Core.Logic.{⊎-elim}
 use Prim.Native.Nat.{ℕ, _+_, _-_, _/_, _≤_}
 use native.Mathlib.Omega.{arith}
 use borrow.Author.Tests.{le-leb}
 use borrow.Rule.Slice.PartAt.{part-to-end}
 use borrow.Rule.Slice.PartMut.{putMid, post-is}
+use lib.Dec.{leb}
 use lib.IntN.{ℤ}
 use lib.ListN.{length, take, drop, replicate, length-replicate, length-append, length-drop}
 use lib.Seq.{take-append-seam, drop-length, drop-drop, length-take-le}
-use Rattle.common.proofs.Tests.{true-or-false, true-unless, and-true, and-halves}
+use Rattle.common.proofs.Tests.{true-unless, and-true}
 use Rattle.events.specs.Line.{pasted}
 use Rattle.tables.specs.declared.OpenAnswer.{OpenAnswer}
 use Rattle.tables.specs.declared.OpenAnswer.the-variants.{Opened}
@@ -21,8 +21,10 @@ use Rattle.tables.specs.Rows.{rows}
 use Rattle.tables.specs.Ledger.{Ledger}
 use Rattle.tables.specs.Fitness.{fit, sizesFit}
 use Rattle.tables.specs.Opening.{Outcome, openNumber, outcome, opened, opening}
+use Rattle.tables.proofs.Laws.Opening.{opening-done, opened-done}
 use Rattle.model.specs.declared.QueryAnswer.the-variants.{Figure}
-use Rattle.model.specs.Step.{query}
+use Rattle.model.specs.Step.{inQuery, query, queryNumber}
+use Rattle.model.proofs.Laws.Answers.{query-answers, opening-answers}
 use Rattle.report.specs.declared.ending.Ending.{Ending}
 use Rattle.report.specs.declared.listing.Listing.{Listing}
 use Rattle.report.specs.Layout.{answerLength, answerLine}
@@ -31,7 +33,7 @@ use Rattle.report.specs.Lines.{answeredLines}
 use Rattle.report.specs.Promises.{TextKept}
 use Rattle.report.proofs.Laws.Lines.{line-by-line}
 use Rattle.report.proofs.Laws.Layout.{length-answerLine, pasted-pasted}
-use Rattle.report.proofs.Laws.Listing.{length-toldPositions}
+use Rattle.report.proofs.Laws.Listing.{length-toldPositions, listed-is}
 use Rattle.report.proofs.Laws.Program.{program-kept}
 use Rattle.ledger.specs.Input.{Taken}
 use Rattle.ledger.specs.Program.{mandateRows, collectionRows, Begins, LastRoom, toldLast, Finished, Shown}
@@ -46,13 +48,13 @@ pub begins-opened : (t l : Ledger) (answer : OpenAnswer)
     → rows (t .mandates) ≡ mandateRows
     → rows (t .collections) ≡ collectionRows
     → Begins l
-unfolding opening
 begins-opened t l answer e a m c =
-    let n : _≡_ {A = ℕ} 0 (cond (sizesFit t) 0 2) = ap openNumber (sym a) ∙ ap (λ (o : Outcome). o .number) e in
+    let n : cond (sizesFit t) 0 2 ≡ 0 = sym (opening-answers t) ∙ sym (ap (λ (o : Outcome). o .number) e) ∙ ap openNumber a in
+    let fits : sizesFit t ≡ true = true-unless (sizesFit t) (λ f. let z : _≡_ {A = ℕ} 2 0 = rw f at n in omega arith) in
     record {
       tables = t;
-      accepted = true-unless (sizesFit t) (λ f. let z : _≡_ {A = ℕ} 0 2 = rw f at n in omega arith);
-      is-opened = ap (λ (o : Outcome). o .after) e;
+      accepted = fits;
+      is-opened = ap (λ (o : Outcome). o .after) (e ∙ opening-done t fits) ∙ sym (opened-done t fits);
       mandates = m;
       collections = c;
     }
@@ -91,10 +93,10 @@ module _ (l : Ledger) (lines begun : ℕ) (out : List ℕ) (h : LastRoom l out) 
     rest-is = part-to-end out' (e .told)
 
     listing-fits : listed l behind ≡ true
-    unfolding listed
     listing-fits =
         let n = length-drop (e .told) out' in
-        and-true (h .fits) (le-leb listingRoom (length behind) (omega (arith, h .room, same, told-is, last-short lines begun)))
+        let room = le-leb listingRoom (length behind) (omega (arith, h .room, same, told-is, last-short lines begun)) in
+        sym (listed-is l behind (fit l) (leb listingRoom (length behind)) refl refl) ∙ and-true (h .fits) room
 
     taken : Listed l behind r part
     taken = subst (λ (x : List ℕ). Listed l x r part) rest-is s
@@ -143,9 +145,9 @@ text-kept l b input = rw (b .is-opened) (program-kept (b .tables) (b .accepted) 
 
 -- a ledger that answers a query is fit
 answers-fit : (l : Ledger) (kind number : ℕ) (z : ℤ) → query l kind number ≡ Figure z → fit l ≡ true
-unfolding query
 answers-fit l kind number z e =
-    true-unless (fit l) (λ f. let q = rw f at e in let x : _≡_ {A = ℕ} 0 1 = cc in omega arith)
+    let n : cond (fit l) (cond (inQuery kind number) 0 5) 2 ≡ 0 = sym (query-answers l kind number .number-is) ∙ ap queryNumber e in
+    true-unless (fit l) (λ f. let x : _≡_ {A = ℕ} 2 0 = rw f at n in omega arith)
 
 module _ (l l' : Ledger) (lines begun : ℕ) (text : List ℕ) (b : Begins l) (t : Taken (runAt l 0 []) l' lines begun text) where
   book-is : l' ≡ takeText (runAt l 0 []) (t .input) .book

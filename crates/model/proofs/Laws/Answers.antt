@@ -1,29 +1,28 @@
 -- The answers in the paper's numbers. To cite: `event-numbers`, `event-answers`, `query-answers`, `opening-answers`. Assumes nothing.
 use mathlib.Core.Path.{_≡_, refl, ap, _∙_}
-use mathlib.Core.Bool.{Bool, true, false, cond, _&&_, _||_}
+use mathlib.Core.Bool.{Bool, true, false, cond, _&&_}
 use mathlib.Core.List.{List, [], _∷_}
 use Prim.Native.Nat.{ℕ}
-use lib.Dec.{eqb}
 use lib.IntN.{ℤ, pos}
 use Rattle.common.proofs.Tests.{and-halves}
-use Rattle.refusals.specs.declared.Refusal.the-variants.{UnfitMemory, UnknownKind, BadDate, BadField}
+use Rattle.refusals.specs.declared.Refusal.the-variants.{UnfitMemory, BadField}
 use Rattle.common.specs.Checks.{Check, check, judged}
 use Rattle.calendar.specs.Gregorian.{inRange}
 use Rattle.events.specs.declared.Event.{Event}
-use Rattle.events.specs.declared.limits.Checked.{Checked}
-use Rattle.events.specs.declared.limits.Checked.the-variants.{Within, Refused}
 use Rattle.events.specs.Limits.{within, kinds, fieldsFit, checked}
 use Rattle.events.specs.Promises.{among}
+use Rattle.events.proofs.Laws.Limits.{checked-kind, checked-date, checked-field, checked-within}
 use Rattle.tables.specs.Ledger.{Ledger}
-use Rattle.tables.specs.Fitness.{fit}
-use Rattle.tables.specs.Opening.{opening}
+use Rattle.tables.specs.Fitness.{sizesFit, fit}
+use Rattle.tables.specs.Opening.{Outcome, opening}
+use Rattle.tables.proofs.Laws.Opening.{opening-done, opening-refused}
 use Rattle.model.specs.declared.Answer.{Answer}
 use Rattle.model.specs.declared.Answer.the-variants as answers
 use Rattle.model.specs.declared.QueryAnswer.the-variants as queries
 use Rattle.model.specs.Actions.{actionOf}
 use Rattle.model.specs.Checks.{checks, ruled}
 use Rattle.model.specs.Step.{answerNumber, thenRuled, answer, numbers, eventNumber, inQuery, figureOf, query, queryNumber, answered}
-use Rattle.model.specs.Promises.{EventNumbers, EventAnswers, QueryAnswered, QueryAnswers, OpeningAnswers}
+use Rattle.model.specs.Promises.{EventNumbers, EventAnswers, QueryAnswers, OpeningAnswers}
 
 -- ---- an ordered list and its numbers
 
@@ -51,15 +50,15 @@ module _ (l : Ledger) (e : Event) where
   unfolding ruled
   ruled-number = judged-number answerNumber (checks l (e .date) (actionOf e)) answers.Accepted
 
+  -- 3 to 5 come first
   limits-number : (a : Answer) → answerNumber (thenRuled (checked e) a) ≡ cond (within kinds (e .kind)) (cond (inRange (e .date)) (cond (fieldsFit e) (answerNumber a) 5) 4) 3
-  unfolding checked
-  limits-number a = by-tests (within kinds (e .kind)) (inRange (e .date)) (fieldsFit e)
+  limits-number a = by-tests (within kinds (e .kind)) (inRange (e .date)) (fieldsFit e) refl refl refl
     where
-      by-tests : (kind date fields : Bool) → answerNumber (thenRuled (judged (check kind (Refused UnknownKind) ∷ check date (Refused BadDate) ∷ check fields (Refused BadField) ∷ []) Within) a) ≡ cond kind (cond date (cond fields (answerNumber a) 5) 4) 3
-      by-tests false date fields = refl
-      by-tests true false fields = refl
-      by-tests true true false = refl
-      by-tests true true true = refl
+      by-tests : (kind date fields : Bool) → within kinds (e .kind) ≡ kind → inRange (e .date) ≡ date → fieldsFit e ≡ fields → answerNumber (thenRuled (checked e) a) ≡ cond kind (cond date (cond fields (answerNumber a) 5) 4) 3
+      by-tests false date fields k d f = rw (checked-kind e k)
+      by-tests true false fields k d f = rw (checked-date e k d)
+      by-tests true true false k d f = rw (checked-field e k d f)
+      by-tests true true true k d f = rw (checked-within e k d f)
 
   fit-number : answerNumber (answer l e) ≡ cond (fit l) (answerNumber (thenRuled (checked e) (ruled l (e .date) (actionOf e)))) 2
   unfolding answer
@@ -115,5 +114,8 @@ query-answers l kind number =
     }
 
 pub opening-answers : OpeningAnswers
-unfolding opening
-opening-answers l = refl
+opening-answers l = by-sizes (sizesFit l) refl
+  where
+    by-sizes : (b : Bool) → sizesFit l ≡ b → opening l .number ≡ cond b 0 2
+    by-sizes true h = ap (λ (o : Outcome). o .number) (opening-done l h)
+    by-sizes false h = ap (λ (o : Outcome). o .number) (opening-refused l h)

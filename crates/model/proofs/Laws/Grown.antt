@@ -1,9 +1,9 @@
 -- What an event, whatever its answer, writes to the rows of both tables: each used row stays where it is, with its number, and no
 -- unused row is written. To cite: `mandates-grown`, `collections-grown`, `unused-rows`. Assumes nothing.
-use mathlib.Core.Path.{_≡_, refl, sym, _∙_}
+use mathlib.Core.Path.{_≡_, refl, _∙_}
 use mathlib.Core.Bool.{Bool, true, false}
 use mathlib.Core.List.{List}
-use Prim.Native.Nat.{ℕ, _+_, _<_}
+use Prim.Native.Nat.{ℕ, _+_}
 use native.Mathlib.Omega.{arith}
 use lib.ListN.{length, getD}
 use Rattle.events.specs.declared.Event.{Event}
@@ -22,7 +22,7 @@ use Rattle.model.specs.Actions.{Action, Change, Presentation, Treatment,
 use Rattle.model.specs.Actions.Action.{AddCreditor, AddMandate, ChangeMandate, Collect, Treat}
 use Rattle.model.specs.Actions.Change.{NewBank, NewCreditor, Cancel}
 use Rattle.model.specs.Actions.Treatment.{Settle, Reject, Undo}
-use Rattle.model.specs.Effects.{dated, changed, presentedOn, newCollection, treated, postTreated, keepMandate, keepCollection, addCollection, atRow, effect}
+use Rattle.model.specs.Effects.{dated, changed, presentedOn, newCollection, treated, postTreated, keepCollection, atRow, effect}
 use Rattle.model.specs.Step.{isAccepted, answer, after}
 use Rattle.model.specs.Promises.{UnusedKept, UnusedRows}
 use Rattle.model.proofs.Laws.Theorem.{after-accepted, after-refused, is-accepted}

@@ -1,32 +1,32 @@
 -- The limits of specs/Deadlines are dates, from every date in range. To cite: `passed-limit`, `at-most-limit` (a test that passed names its limit),
 -- `last-day-found`, `last-day-return`, `last-day-refund`, `last-day-reversal`, `lapse-found`, `timing`. Assumes nothing.
-use mathlib.Core.Path.{_≡_, refl, sym, ap, _∙_}
-use mathlib.Core.Bool.{Bool, true, false, cond, not, _&&_}
-use mathlib.Core.Logic.{⊎-elim}
-use Prim.Native.Nat.{ℕ, _+_, _≤_, _<_}
+use mathlib.Core.Path.{_≡_, refl, ap, _∙_}
+use mathlib.Core.Bool.{Bool, true, false, cond, not}
+use Prim.Native.Nat.{ℕ, _≤_}
 use native.Mathlib.Omega.{arith}
 use lib.Dec.{eqb}
 use borrow.Author.Tests.{ltb-false, le-ltb}
-use Rattle.common.proofs.Tests.{not-true, and-halves, true-or-false}
+use Rattle.common.proofs.Tests.{not-true, and-halves}
 use Rattle.calendar.specs.Gregorian.{isDate, inRange}
-use Rattle.calendar.specs.DayNumber.{calendarDays, dayNumber, dateAt, dateOf}
+use Rattle.calendar.specs.DayNumber.{dayNumber, dateAt}
 use Rattle.calendar.specs.Target.{lastBusinessDayBefore}
 use Rattle.calendar.specs.Periods.{daysAfter, monthsAfter, periodEnd, isAfter}
 use Rattle.calendar.specs.declared.DateAnswer.{DateAnswer}
-use Rattle.calendar.specs.declared.DateAnswer.the-variants.{Date, NoDate}
+use Rattle.calendar.specs.declared.DateAnswer.the-variants.{Date}
 use Rattle.calendar.proofs.Laws.Gregorian.{range-facts, date-valid}
 use Rattle.calendar.proofs.Laws.DayNumber.{dayNumber-lt, dayNumber-reflects-le}
-use Rattle.calendar.proofs.Laws.Answers.{DateAfter, dateOf-is}
+use Rattle.calendar.proofs.Laws.Answers.{DateAfter, dayOf-is, dateOf-is}
 use Rattle.calendar.proofs.Laws.BusinessDays.{lastOpen-exists}
-use Rattle.calendar.proofs.Laws.Periods.{monthCount-is}
+use Rattle.calendar.proofs.Laws.BusinessDates.{lastBusinessDay-day}
+use Rattle.calendar.proofs.Laws.Periods.{monthCount-is, periodEnd-steps}
 use Rattle.calendar.proofs.Laws.MonthCounts.{months-after}
 use Rattle.calendar.proofs.Laws.PeriodEnds.{longest, range-days, days-after, range-period-end}
 use Rattle.calendar.proofs.Laws.Promises.{kept-due}
 use Rattle.tables.specs.Fitness.{noneOrDate}
 use Rattle.model.specs.Actions.{Way}
 use Rattle.model.specs.Actions.Way.{ByReturn, ByRefund, ByReversal}
-use Rattle.model.specs.Deadlines.{core, periodOf, dateIn, keptDue, timely, lastDay, lapseEnd}
-use Rattle.model.specs.Promises.{lastDayFrom, NotAfter, InGoodTime, PassesInGoodTime, Timing}
+use Rattle.model.specs.Deadlines.{core, periodOf, keptDue, timely, lastDay, lapseEnd}
+use Rattle.model.specs.Promises.{lastDayFrom, NotAfter, Timing}
 
 -- ---- a test that passed, and its limit
 
@@ -80,20 +80,20 @@ module _ (x : ℕ) (r : inRange x ≡ true) where
 -- the last day as the promises word it
 module _ (settled code : ℕ) (r : inRange settled ≡ true) where
   pub last-day-return : lastDay ByReturn settled ≡ lastDayFrom 8 code settled
-  unfolding lastDay periodEnd
-  last-day-return = rw (no-months settled r, no-days settled r)
+  unfolding lastDay
+  last-day-return = rw (periodEnd-steps (periodOf core ByReturn) settled, no-months settled r, no-days settled r)
 
   pub last-day-refund : (rate : ℕ) → lastDay (ByRefund rate code) settled ≡ lastDayFrom 9 code settled
-  unfolding lastDay periodEnd
+  unfolding lastDay
   last-day-refund rate = by-code (eqb code 0) refl
     where
       by-code : (b : Bool) → eqb code 0 ≡ b → lastDay (ByRefund rate code) settled ≡ lastDayFrom 9 code settled
-      by-code true e = rw (e, no-months settled r)
-      by-code false e = rw e
+      by-code true e = rw (e, periodEnd-steps (core .authorised) settled, no-months settled r)
+      by-code false e = rw (e, periodEnd-steps (core .unauthorised) settled)
 
   pub last-day-reversal : lastDay ByReversal settled ≡ lastDayFrom 10 code settled
-  unfolding lastDay periodEnd
-  last-day-reversal = rw (no-months settled r, no-days settled r)
+  unfolding lastDay
+  last-day-reversal = rw (periodEnd-steps (periodOf core ByReversal) settled, no-months settled r, no-days settled r)
 
 -- ---- lapse
 
@@ -127,12 +127,11 @@ record Before (x : ℕ) : Type 0 where
   is : lastBusinessDayBefore x ≡ Date date
 
 before-found : (x : ℕ) → inRange x ≡ true → Before x
-unfolding lastBusinessDayBefore
 before-found x r =
     let d = range-facts x r .is-date in
     let i = lastOpen-exists (dayNumber x) (omega (arith, range-days x r .0)) (dayNumber-lt x d) in
     let n = dayNumber-lt x d in
-    record { date = dateAt (i .day); is = rw (d, i .is) (dateOf-is (i .day) (omega (arith, i .last .before))) }
+    record { date = dateAt (i .day); is = lastBusinessDay-day x (dayNumber x) (dayOf-is x d) ∙ rw (i .is) (dateOf-is (i .day) (omega (arith, i .last .before))) }
 
 pub timing : Timing
 unfolding timely

@@ -7,7 +7,6 @@ use Prim.Native.Nat.{ℕ, zero, suc, _+_, _*_, _≤_, _<_}
 use native.Mathlib.Nat.{eq-or-lt-of-le, suc-mul}
 use native.Mathlib.Numerals.{add-one}
 use native.Mathlib.Omega.{arith}
-use Rattle.positions.specs.Compensation.{amountLimit}
 use Rattle.positions.specs.Limits.{rowMove}
 use Rattle.tables.specs.Ledger.{Ledger}
 use Rattle.tables.specs.Rows.{rows, collectionAt, putCollection}

@@ -2,18 +2,17 @@
 -- (`closes`, `undone`, `keptDue`); an event within its limits is noted as its action asks, `note-action`. `treats` counts actions as the
 -- promises count events by their kinds, `counted-action`. The invariant keeps these and cites both laws once. Assumes nothing.
 use mathlib.Core.Path.{_≡_, refl, sym, ap, _∙_}
-use mathlib.Core.Bool.{Bool, true, false, cond, _&&_, _||_}
+use mathlib.Core.Bool.{Bool, true, false, cond, _&&_}
 use mathlib.Core.List.{List}
 use mathlib.Core.Logic.{⊎-elim}
-use Prim.Native.Nat.{ℕ, zero, suc, _+_, _≤_}
+use Prim.Native.Nat.{ℕ, zero, suc, _≤_}
 use native.Mathlib.Omega.{arith}
 use lib.Dec.{eqb}
-use lib.IntN.{ℤ, pos, negℤ, negℤ-negℤ}
+use lib.IntN.{pos, negℤ-negℤ}
 use Rattle.common.proofs.Tests.{true-or-false}
 use Rattle.calendar.specs.Target.{firstBusinessDay}
 use Rattle.calendar.specs.declared.DateAnswer.{DateAnswer}
 use Rattle.calendar.specs.declared.DateAnswer.the-variants.{Date, NoDate}
-use Rattle.positions.specs.Compensation.{compensation as compensationFor}
 use Rattle.positions.specs.Postings.{settlement}
 use Rattle.positions.specs.declared.Postings.{Postings}
 use Rattle.events.specs.declared.Event.{Event}
@@ -23,7 +22,7 @@ use Rattle.events.specs.Promises.{among}
 use Rattle.events.proofs.Laws.Limits.{Limited, checked-facts, kind-cases, collect-facts}
 use Rattle.tables.specs.declared.Mandate.{Mandate}
 use Rattle.tables.specs.declared.Standing.the-variants.{Closed, Cancelled}
-use Rattle.model.specs.Actions.{Action, Change, Presentation, Treatment, Way, newMandate, presentation, actionOf}
+use Rattle.model.specs.Actions.{Action, Change, Presentation, Treatment, newMandate, presentation, actionOf}
 use Rattle.model.specs.Actions.Action.{AddCreditor, AddMandate, ChangeMandate, Collect, Treat}
 use Rattle.model.specs.Actions.Change.{NewBank, NewCreditor, Cancel}
 use Rattle.model.specs.Actions.Treatment.{Settle, Reject, Undo}
