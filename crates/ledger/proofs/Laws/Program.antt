@@ -49,7 +49,7 @@ pub begins-opened : (t l : Ledger) (answer : OpenAnswer)
     → rows (t .collections) ≡ collectionRows
     → Begins l
 begins-opened t l answer e a m c =
-    let n : cond (sizesFit t) 0 2 ≡ 0 = sym (opening-answers t) ∙ sym (ap (λ (o : Outcome). o .number) e) ∙ ap openNumber a in
+    let n : _≡_ {A = ℕ} (cond (sizesFit t) 0 2) 0 = sym (opening-answers t) ∙ sym (ap (λ (o : Outcome). o .number) e) ∙ ap openNumber a in
     let fits : sizesFit t ≡ true = true-unless (sizesFit t) (λ f. let z : _≡_ {A = ℕ} 2 0 = rw f at n in omega arith) in
     record {
       tables = t;
@@ -146,7 +146,7 @@ text-kept l b input = rw (b .is-opened) (program-kept (b .tables) (b .accepted) 
 -- a ledger that answers a query is fit
 answers-fit : (l : Ledger) (kind number : ℕ) (z : ℤ) → query l kind number ≡ Figure z → fit l ≡ true
 answers-fit l kind number z e =
-    let n : cond (fit l) (cond (inQuery kind number) 0 5) 2 ≡ 0 = sym (query-answers l kind number .number-is) ∙ ap queryNumber e in
+    let n : _≡_ {A = ℕ} (cond (fit l) (cond (inQuery kind number) 0 5) 2) 0 = sym (query-answers l kind number .number-is) ∙ ap queryNumber e in
     true-unless (fit l) (λ f. let x : _≡_ {A = ℕ} 2 0 = rw f at n in omega arith)
 
 module _ (l l' : Ledger) (lines begun : ℕ) (text : List ℕ) (b : Begins l) (t : Taken (runAt l 0 []) l' lines begun text) where
