@@ -14,6 +14,10 @@ pub const BANKS: usize = 64;
 pub const LINES: usize = 4_096;
 /// Cells of a row.
 pub const CELLS: usize = 9;
+/// The cells of a mandate's debtor bank and of its mark that FRST is due, and of a collection's amount.
+pub const BANK_CELL: usize = 3;
+pub const FIRST_CELL: usize = 7;
+pub const AMOUNT_CELL: usize = 5;
 
 /// The last collections are presented and the others settled.
 const PRESENTED: usize = 4_096;

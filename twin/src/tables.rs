@@ -15,7 +15,8 @@ mod rows;
 use clock::timed;
 use foreign::{is_fit, is_safe, take_text, Lent};
 use full::{check_answers, lines, texts, Full, Numbers, Text};
-use full::{BANKS, CELLS, COLLECTIONS, CREDITORS, DEBTORS, LINES, MANDATES, SETTLED, TODAY};
+use full::{AMOUNT_CELL, BANK_CELL, CELLS, FIRST_CELL};
+use full::{BANKS, COLLECTIONS, CREDITORS, DEBTORS, LINES, MANDATES, SETTLED, TODAY};
 use ledger::{answer_lines, Ledger};
 use std::hint::black_box;
 use std::time::Duration;
@@ -41,7 +42,7 @@ fn check_tests(full: &Lent) {
     far.debtor_positions[DEBTORS - 1] = 9_000_000_000_000_000;
     assert!(is_fit(&far) && !is_safe(&far));
     let mut unfit = full.clone();
-    unfit.collections[COLLECTIONS * CELLS - 4] = 0;
+    unfit.collections[(COLLECTIONS - 1) * CELLS + AMOUNT_CELL] = 0;
     assert!(!is_fit(&unfit) && !is_safe(&unfit));
     let mut early = full.clone();
     early.state[0] = SETTLED - 1;
@@ -134,9 +135,9 @@ fn check_left(full: &Full, used: &Full, numbers: &Numbers, text: &Text) {
         if *kind == 3 {
             let row = numbers.mandates.iter().position(|number| number == mandate);
             let cells = row.unwrap() * CELLS;
-            left.mandates[cells + 3] = *bank;
+            left.mandates[cells + BANK_CELL] = *bank;
             // A new bank makes FRST due.
-            left.mandates[cells + 7] = 1;
+            left.mandates[cells + FIRST_CELL] = 1;
         }
     }
     let moved = text.answer == 0 && text.events[0][0] != 3;

@@ -1,13 +1,17 @@
-// The call for the ten events.
+// The call for an event.
 ghost use Rattle.tables.specs.Ledger.{ledger};
 ghost use Rattle.book.specs.Events.{Taken};
-use crate::Outcome;
-use crate::steps::take_fit;
+use crate::acting::act;
+use crate::acting::find_collection;
+use crate::acting::find_mandate;
+use checking::Outcome;
 use events::Event;
+use events::limits::Checked;
+use events::limits::check;
+use fitness::fitness::is_fit;
 use model::Answer;
 use refusals::Refusal;
 use tables::Header;
-use tables::fitness::is_fit;
 
 // Any event, given to any lent memory.
 pub fn take_event(
@@ -37,14 +41,22 @@ pub fn take_event(
             header: header,
         };
     }
-    take_fit(
-        header,
-        e,
-        mandates,
-        collections,
-        creditors,
-        creditor_positions,
-        debtor_positions,
-        bank_positions,
-    )
+    match check(e) {
+        Checked::Refused(r) => Outcome {
+            answer: Answer::Refused(r),
+            header: header,
+        },
+        Checked::Within => act(
+            header,
+            e,
+            find_mandate(e, mandates, header.mandates, 0),
+            find_collection(e, collections, header.collections, 0),
+            mandates,
+            collections,
+            creditors,
+            creditor_positions,
+            debtor_positions,
+            bank_positions,
+        ),
+    }
 }

@@ -8,11 +8,11 @@ ghost use Rattle.book.specs.Events.{Queried};
 use common::BANKS;
 use common::CREDITORS;
 use common::DEBTORS;
+use fitness::fitness::is_fit;
 use model::QueryAnswer;
 use positions::posting::position_of;
 use refusals::Refusal;
 use tables::Header;
-use tables::fitness::is_fit;
 
 // Refusal 5: whether there is such a kind and such a number of it.
 fn in_query(kind: u64, number: u64) -> bool

@@ -2,6 +2,8 @@
 -- To cite: the laws of proofs/Tests. Assumes nothing.
 use mathlib.Core.Bool.{Bool, true, false, _&&_, _||_}
 use mathlib.Core.List.{List, [], _∷_}
+use Prim.Native.Nat.{ℕ}
+use lib.Dec.{eqb}
 
 -- a and every one of the tests
 abbrev pub andAll : Bool → List Bool → Bool
@@ -22,3 +24,8 @@ orAny a (b ∷ bs) = orAny (a || b) bs
 abbrev pub anyOf : List Bool → Bool
 anyOf [] = false
 anyOf (b ∷ bs) = orAny b bs
+
+-- n is one of the numbers
+abbrev pub among : List ℕ → ℕ → Bool
+among [] n = false
+among (m ∷ ms) n = eqb m n || among ms n

@@ -1,6 +1,5 @@
-// The events of document 01: their limits, and the text line that each is written as.
+// The events of document 01, and their limits.
 pub mod limits;
-pub mod line;
 
 // An event by its nine fields. A field that the kind and code do not name is 0.
 pub struct Event {

@@ -3,7 +3,8 @@ ghost use mathlib.Core.Path.{_≡_};
 ghost use mathlib.Core.List.{[], _∷_};
 ghost use Prim.Native.Nat.{_<_};
 ghost use lib.ListN.{length, getD};
-ghost use Rattle.events.specs.Limits.{within, table, noRow, rowIn, rowOf, secondFits, rowFits, fieldsFit, checked, checkedNumber, limitNumber};
+ghost use Rattle.events.specs.declared.limits.SecondDate.the-variants.{NoSecond};
+ghost use Rattle.events.specs.Limits.{within, unnamed, number, row, table, noRow, rowIn, rowOf, secondFits, rowFits, fieldsFit, checked, checkedNumber, limitNumber};
 use crate::Event;
 use common::AMOUNT_LIMIT;
 use common::BANKS;
@@ -103,7 +104,7 @@ const ONLY_0: Range = Range { low: 0, high: 0 };
 
 const ONLY_1: Range = Range { low: 1, high: 1 };
 
-// The rows of the table of specs/Limits: one for each kind and its codes.
+// The rows of the table of specs/Limits that name more than a collection: one for each kind and its codes.
 const CREDITOR_ROW: Row = Row {
     kind: 1,
     codes: UNNAMED,
@@ -172,39 +173,6 @@ const COLLECT_ROW: Row = Row {
     second: SecondDate::Dated,
 };
 
-const SETTLE_ROW: Row = Row {
-    kind: 6,
-    codes: UNNAMED,
-    mandate: UNNAMED,
-    a: NUMBER,
-    b: UNNAMED,
-    c: UNNAMED,
-    amount: UNNAMED,
-    second: SecondDate::NoSecond,
-};
-
-const REJECT_ROW: Row = Row {
-    kind: 7,
-    codes: UNNAMED,
-    mandate: UNNAMED,
-    a: NUMBER,
-    b: UNNAMED,
-    c: UNNAMED,
-    amount: UNNAMED,
-    second: SecondDate::NoSecond,
-};
-
-const RETURN_ROW: Row = Row {
-    kind: 8,
-    codes: UNNAMED,
-    mandate: UNNAMED,
-    a: NUMBER,
-    b: UNNAMED,
-    c: UNNAMED,
-    amount: UNNAMED,
-    second: SecondDate::NoSecond,
-};
-
 const REFUND_ROW: Row = Row {
     kind: 9,
     codes: REFUND_CODES,
@@ -216,22 +184,27 @@ const REFUND_ROW: Row = Row {
     second: SecondDate::NoSecond,
 };
 
-const REVERSAL_ROW: Row = Row {
-    kind: 10,
-    codes: UNNAMED,
-    mandate: UNNAMED,
-    a: NUMBER,
-    b: UNNAMED,
-    c: UNNAMED,
-    amount: UNNAMED,
-    second: SecondDate::NoSecond,
-};
-
 // Whether x lies in the range.
 fn within(r: Range, x: u64) -> bool
     ensures { λ b. ⌜ b ≡ within r x ⌝ }
 {
     (r.low <= x) & (x <= r.high)
+}
+
+// The row of a kind that names a collection alone.
+fn collection_row(kind: u64) -> Row
+    ensures { λ r. ⌜ r ≡ row kind unnamed unnamed number unnamed unnamed unnamed NoSecond ⌝ }
+{
+    Row {
+        kind: kind,
+        codes: UNNAMED,
+        mandate: UNNAMED,
+        a: NUMBER,
+        b: UNNAMED,
+        c: UNNAMED,
+        amount: UNNAMED,
+        second: SecondDate::NoSecond,
+    }
 }
 
 // Row i of the table.
@@ -246,12 +219,12 @@ fn row_at(i: usize) -> Row
         3 => AMEND_CREDITOR_ROW,
         4 => CANCEL_ROW,
         5 => COLLECT_ROW,
-        6 => SETTLE_ROW,
-        7 => REJECT_ROW,
-        8 => RETURN_ROW,
+        6 => collection_row(6),
+        7 => collection_row(7),
+        8 => collection_row(8),
         9 => REFUND_ROW,
         // 10, the last row
-        _ => REVERSAL_ROW,
+        _ => collection_row(10),
     }
 }
 

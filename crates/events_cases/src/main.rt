@@ -3,10 +3,10 @@
 use events::Event;
 use events::limits;
 use events::limits::Checked;
-use events::line;
-use events::line::LineAnswer;
-use events::line::WriteAnswer;
 use libc::STDOUT_FILENO;
+use lines::line;
+use lines::line::LineAnswer;
+use lines::line::WriteAnswer;
 
 fn put(n: u64) {
     io::print_decimal(STDOUT_FILENO, n);

@@ -1,20 +1,18 @@
--- The call for a text of events over lent cells, against the run of report's specs/Run. Assumes nothing.
+-- The call for a text of events over lent cells, against the run of crates/run/specs/Run. Assumes nothing.
 use mathlib.Core.Path.{_≡_}
-use mathlib.Core.Bool.{Bool, true, false, cond, _&&_}
+use mathlib.Core.Bool.{Bool, cond, _&&_}
 use mathlib.Core.List.{List, [], _∷_}
 use Prim.Native.Nat.{ℕ}
 use lib.IntN.{ℤ}
 use lib.ListN.{length}
 use Rattle.refusals.specs.declared.Refusal.the-variants.{UnfitMemory}
 use Rattle.refusals.specs.Refusals.{numberOf}
-use Rattle.events.specs.Line.{pasted}
+use Rattle.digits.specs.Field.{pasted}
 use Rattle.tables.specs.Ledger.{Ledger}
-use Rattle.model.specs.declared.Answer.{Answer}
-use Rattle.model.specs.declared.Answer.the-variants.{Accepted, Refused}
-use Rattle.model.specs.Step.{answerNumber}
-use Rattle.report.specs.Run.{Run}
-use Rattle.book.specs.declared.text.Piece.{Piece}
-use Rattle.book.specs.Text.{pieceFits, pieceRun, pieceTold, textAfter}
+use Rattle.model.specs.Step.{answerNumber, isAccepted}
+use Rattle.run.specs.Run.{Run}
+use Rattle.text.specs.declared.text.Piece.{Piece}
+use Rattle.text.specs.Text.{pieceFits, pieceRun, pieceTold, textAfter}
 use Rattle.foreign.specs.Cells.{cellsFit, linesIn, filledIn, stateOf}
 
 -- ---- what the call leaves, in cells
@@ -28,10 +26,6 @@ pieceCents p = p .header .compensation ∷ []
 pub record CellsPut (p : Piece) (state' : List ℕ) (cents' : List ℤ) : Type 0 where
   pub state-is : state' ≡ pieceState p
   pub cents-is : cents' ≡ pieceCents p
-
-abbrev pub isAccepted : Answer → Bool
-isAccepted Accepted = true
-isAccepted (Refused r) = false
 
 -- a refusal leaves the cells as they are
 pub record AnswerPut (p : Piece) (state : List ℕ) (cents : List ℤ) (r : ℕ) (state' : List ℕ) (cents' : List ℤ) : Type 0 where

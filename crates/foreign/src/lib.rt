@@ -1,15 +1,15 @@
 // The ledger for programs in C or Rust: functions on numbers and slices, for any sizes and any content. A slice passes as
 // a pointer and a length.
 ghost use mathlib.Core.Path.{_≡_};
-ghost use Rattle.tables.specs.Fitness.{fit};
+ghost use Rattle.fitness.specs.Fitness.{fit};
 ghost use Rattle.safety.specs.Safety.{isSafe};
 ghost use Rattle.foreign.specs.Cells.{lentLedger};
 
-pub mod text;
+pub mod calls;
 
+use fitness::fitness::is_fit;
 use safety::is_safe;
 use tables::Header;
-use tables::fitness::is_fit;
 
 // Whether lent memory is fit.
 #[no_mangle]

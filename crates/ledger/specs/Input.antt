@@ -1,14 +1,14 @@
 -- The program's input. Nothing says which bytes `read` gives; what is said is that there are bytes of which the run of
--- report's specs/Run makes what the program hands on. Assumes nothing.
+-- crates/run/specs/Run makes what the program hands on. Assumes nothing.
 use mathlib.Core.Path.{_≡_}
 use mathlib.Core.List.{List}
 use Prim.Native.Nat.{ℕ, _*_, _≤_}
 use lib.ListN.{length, take}
-use Rattle.events.specs.Line.{pasted}
+use Rattle.digits.specs.Field.{pasted}
 use Rattle.tables.specs.Ledger.{Ledger}
 use Rattle.report.specs.Layout.{answerLength}
-use Rattle.report.specs.Run.{Run, runAt, takeText}
-use Rattle.book.specs.Text.{pieceRun, pieceTold}
+use Rattle.run.specs.Run.{Run, runAt, takeText}
+use Rattle.text.specs.Text.{pieceRun, pieceTold}
 use Rattle.ledger.specs.declared.Progress.{Progress}
 
 -- ---- a read: bytes were put behind the first `begun`, which are as they were; now there are `filled`

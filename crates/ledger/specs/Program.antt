@@ -5,15 +5,16 @@ use mathlib.Core.Bool.{true}
 use mathlib.Core.List.{List, [], _++_}
 use Prim.Native.Nat.{ℕ, _+_, _≤_}
 use lib.ListN.{length, take}
-use Rattle.events.specs.Line.{pasted}
+use Rattle.digits.specs.Field.{pasted}
 use Rattle.tables.specs.Rows.{rows}
 use Rattle.tables.specs.Ledger.{Ledger}
-use Rattle.tables.specs.Fitness.{sizesFit, fit}
-use Rattle.tables.specs.Opening.{opened}
+use Rattle.fitness.specs.Fitness.{sizesFit, fit}
+use Rattle.opening.specs.Opening.{opened}
 use Rattle.model.specs.Journal.{Journal, journal}
 use Rattle.report.specs.Layout.{answerLength}
-use Rattle.report.specs.Run.{runAt, takeText, endTold, toldEnd, toldPositions, toldJournal, listingRoom}
-use Rattle.report.specs.Lines.{answeredLines, answersOf, historyOf}
+use Rattle.listing.specs.Listing.{listingRoom}
+use Rattle.run.specs.Run.{runAt, takeText, endTold, toldEnd, toldPositions, toldJournal}
+use Rattle.run.specs.Lines.{answeredLines, answersOf, historyOf}
 
 -- ---- the start
 

@@ -9,17 +9,23 @@ ghost use lib.Dec.{ltb};
 ghost use lib.ListN.{length};
 ghost use Rattle.tables.specs.Ledger.{ledger};
 ghost use Rattle.report.specs.Layout.{lastNumber, answerLength};
-ghost use Rattle.report.specs.Run.{runAt};
+ghost use Rattle.run.specs.Run.{runAt};
 ghost use Rattle.ledger.specs.Input.{Behind, Given, Turned, Taken};
 ghost use Rattle.ledger.specs.Program.{Begins, LastRoom, Finished, Shown};
-use book::text::take_text;
 use libc::STDIN_FILENO;
 use libc::STDOUT_FILENO;
-use report::ending::end_text;
-use report::listing::list_positions;
+use listing::ending::end_text;
+use listing::listing::list_positions;
+use opening::OpenAnswer;
+use opening::open_ledger;
 use tables::Header;
-use tables::OpenAnswer;
-use tables::opening::open_ledger;
+use tables::rows::STRIDE;
+use text::text::take_text;
+
+// The rows of the tables.
+const MANDATES: usize = 128;
+
+const COLLECTIONS: usize = 256;
 
 // The most lines that are answered.
 const LINES: u64 = 999_999;
@@ -256,10 +262,10 @@ fn run(
     );
 }
 
-// Lends 128 mandate rows and 256 collection rows, of 9 cells each, opens the ledger on them and runs.
+// Lends the rows, opens the ledger on them and runs.
 fn main() {
-    let mut mandates = [0u64; 1152];
-    let mut collections = [0u64; 2304];
+    let mut mandates = [0u64; MANDATES * STRIDE];
+    let mut collections = [0u64; COLLECTIONS * STRIDE];
     let mut creditors = [0u64; 256];
     let mut creditor_positions = [0i64; 256];
     let mut debtor_positions = [0i64; 4096];

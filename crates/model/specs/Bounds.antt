@@ -11,7 +11,7 @@ use Rattle.positions.specs.Limits.{rowMove}
 use Rattle.positions.specs.Positions.{position}
 use Rattle.tables.specs.Ledger.{Ledger}
 use Rattle.tables.specs.Rows.{collectionAt}
-use Rattle.tables.specs.Fitness.{fit}
+use Rattle.fitness.specs.Fitness.{fit}
 use Rattle.tables.specs.declared.State.{State}
 use Rattle.tables.specs.declared.State.the-variants.{Presented, Rejected, Settled, Undone}
 

@@ -17,10 +17,13 @@ use Rattle.tables.specs.Ledger.{Ledger, added}
 use Rattle.tables.specs.Rows.{rows}
 use Rattle.model.specs.declared.Answer.{Answer}
 use Rattle.model.specs.declared.Answer.the-variants.{Accepted, Refused}
-use Rattle.model.specs.Actions.{Action, Change, Treatment, isRecurrent}
-use Rattle.model.specs.Actions.Action.{AddCreditor, AddMandate, ChangeMandate, Collect, Treat}
-use Rattle.model.specs.Actions.Change.{NewBank, NewCreditor, Cancel}
-use Rattle.model.specs.Actions.Treatment.{Settle, Reject, Undo}
+use Rattle.model.specs.declared.Action.{Action}
+use Rattle.model.specs.declared.Change.{Change}
+use Rattle.model.specs.declared.Treatment.{Treatment}
+use Rattle.model.specs.Actions.{isRecurrent}
+use Rattle.model.specs.declared.Action.the-variants.{AddCreditor, AddMandate, ChangeMandate, Collect, Treat}
+use Rattle.model.specs.declared.Change.the-variants.{NewBank, NewCreditor, Cancel}
+use Rattle.model.specs.declared.Treatment.the-variants.{Settle, Reject, Undo}
 use Rattle.model.specs.Deadlines.{keptDue, timely, inTime, lapsedFor}
 use Rattle.model.specs.Lookups.{isKnown, ofKnown, mandateOf, collectionOf}
 

@@ -9,19 +9,19 @@ use Rattle.calendar.specs.Periods.{daysAfter, monthsAfter, periodEnd, isAfter}
 use Rattle.calendar.specs.declared.Period.{Period}
 use Rattle.calendar.specs.declared.DateAnswer.{DateAnswer}
 use Rattle.calendar.specs.declared.DateAnswer.the-variants.{Date, NoDate}
-use Rattle.model.specs.Actions.{Way}
-use Rattle.model.specs.Actions.Way.{ByReturn, ByRefund, ByReversal}
+use Rattle.model.specs.declared.Way.{Way}
+use Rattle.model.specs.declared.Way.the-variants.{ByReturn, ByRefund, ByReversal}
 
 -- ---- the kept due
 
 -- a date that was worked out; from dates in range there is always one
-abbrev pub dateIn : DateAnswer → ℕ
-dateIn (Date x) = x
-dateIn NoDate = 0
+abbrev pub dateFound : DateAnswer → ℕ
+dateFound (Date x) = x
+dateFound NoDate = 0
 
 -- the first business day on or after the requested date
 unfoldable pub keptDue : ℕ → ℕ
-keptDue requested = dateIn (firstBusinessDay requested)
+keptDue requested = dateFound (firstBusinessDay requested)
 
 -- ---- when a collect comes, refusal 13
 

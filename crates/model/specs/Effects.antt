@@ -15,7 +15,6 @@ use Rattle.tables.specs.declared.Found.{Found}
 use Rattle.tables.specs.declared.Found.the-variants.{At, Nothing}
 use Rattle.tables.specs.declared.Mandate.{Mandate}
 use Rattle.tables.specs.declared.Collection.{Collection}
-use Rattle.tables.specs.declared.Standing.{Standing}
 use Rattle.tables.specs.declared.Standing.the-variants.{Closed, Cancelled}
 use Rattle.tables.specs.declared.State.{State}
 use Rattle.tables.specs.declared.State.the-variants.{Presented, Rejected, Settled, Undone}
@@ -23,73 +22,51 @@ use Rattle.tables.specs.declared.Undoing.{Undoing}
 use Rattle.tables.specs.declared.Undoing.the-variants.{Return, Refund, Reversal}
 use Rattle.tables.specs.Ledger.{Ledger, bankOf}
 use Rattle.tables.specs.Lookup.{lookup}
+pub use Rattle.tables.specs.Records.{remade, inState}
 use Rattle.tables.specs.Rows.{mandateAt, collectionAt, putMandate, putCollection}
-use Rattle.model.specs.Actions.{Action, Change, Presentation, Treatment, Way, isRecurrent}
-use Rattle.model.specs.Actions.Action.{AddCreditor, AddMandate, ChangeMandate, Collect, Treat}
-use Rattle.model.specs.Actions.Change.{NewBank, NewCreditor, Cancel}
-use Rattle.model.specs.Actions.Treatment.{Settle, Reject, Undo}
-use Rattle.model.specs.Actions.Way.{ByReturn, ByRefund, ByReversal}
+use Rattle.model.specs.declared.Action.{Action}
+use Rattle.model.specs.declared.Change.{Change}
+use Rattle.model.specs.declared.Presentation.{Presentation}
+use Rattle.model.specs.declared.Treatment.{Treatment}
+use Rattle.model.specs.declared.Way.{Way}
+use Rattle.model.specs.Actions.{isRecurrent}
+use Rattle.model.specs.declared.Action.the-variants.{AddCreditor, AddMandate, ChangeMandate, Collect, Treat}
+use Rattle.model.specs.declared.Change.the-variants.{NewBank, NewCreditor, Cancel}
+use Rattle.model.specs.declared.Treatment.the-variants.{Settle, Reject, Undo}
+use Rattle.model.specs.declared.Way.the-variants.{ByReturn, ByRefund, ByReversal}
 use Rattle.model.specs.Checks.{settledOn}
 use Rattle.model.specs.Deadlines.{keptDue, daysSince}
 
 -- ---- a ledger with one part anew
 
--- "The latest date is that of the last accepted event"
-abbrev pub dated : Ledger → ℕ → Ledger
-dated l date = record {
-  latest = date;
-  mandatesUsed = l .mandatesUsed;
-  collectionsUsed = l .collectionsUsed;
+-- with another latest date, other rows or creditors; the positions and the compensation stay
+abbrev pub withTables : Ledger → ℕ → ℕ → ℕ → List ℕ → List ℕ → List ℕ → Ledger
+withTables l latest mandatesUsed collectionsUsed mandates collections creditors = record {
+  latest = latest;
+  mandatesUsed = mandatesUsed;
+  collectionsUsed = collectionsUsed;
   compensation = l .compensation;
-  mandates = l .mandates;
-  collections = l .collections;
-  creditors = l .creditors;
-  creditorPositions = l .creditorPositions;
-  debtorPositions = l .debtorPositions;
-  bankPositions = l .bankPositions;
-}
-
-abbrev pub withCreditors : Ledger → List ℕ → Ledger
-withCreditors l creditors = record {
-  latest = l .latest;
-  mandatesUsed = l .mandatesUsed;
-  collectionsUsed = l .collectionsUsed;
-  compensation = l .compensation;
-  mandates = l .mandates;
-  collections = l .collections;
+  mandates = mandates;
+  collections = collections;
   creditors = creditors;
   creditorPositions = l .creditorPositions;
   debtorPositions = l .debtorPositions;
   bankPositions = l .bankPositions;
 }
 
+-- "The latest date is that of the last accepted event"
+abbrev pub dated : Ledger → ℕ → Ledger
+dated l date = withTables l date (l .mandatesUsed) (l .collectionsUsed) (l .mandates) (l .collections) (l .creditors)
+
+abbrev pub withCreditors : Ledger → List ℕ → Ledger
+withCreditors l creditors =
+    withTables l (l .latest) (l .mandatesUsed) (l .collectionsUsed) (l .mandates) (l .collections) creditors
+
 abbrev pub withMandates : Ledger → List ℕ → ℕ → Ledger
-withMandates l mandates used = record {
-  latest = l .latest;
-  mandatesUsed = used;
-  collectionsUsed = l .collectionsUsed;
-  compensation = l .compensation;
-  mandates = mandates;
-  collections = l .collections;
-  creditors = l .creditors;
-  creditorPositions = l .creditorPositions;
-  debtorPositions = l .debtorPositions;
-  bankPositions = l .bankPositions;
-}
+withMandates l mandates used = withTables l (l .latest) used (l .collectionsUsed) mandates (l .collections) (l .creditors)
 
 abbrev pub withCollections : Ledger → List ℕ → ℕ → Ledger
-withCollections l collections used = record {
-  latest = l .latest;
-  mandatesUsed = l .mandatesUsed;
-  collectionsUsed = used;
-  compensation = l .compensation;
-  mandates = l .mandates;
-  collections = collections;
-  creditors = l .creditors;
-  creditorPositions = l .creditorPositions;
-  debtorPositions = l .debtorPositions;
-  bankPositions = l .bankPositions;
-}
+withCollections l collections used = withTables l (l .latest) (l .mandatesUsed) used (l .mandates) collections (l .creditors)
 
 -- the amounts posted to the parties and banks that the collection keeps; equal banks get both
 abbrev pub withPostings : Ledger → Collection → Postings → Ledger
@@ -132,20 +109,6 @@ abbrev pub addCollection : Ledger → Collection → Ledger
 addCollection l k = withCollections l (putCollection (l .collections) (l .collectionsUsed) k) (l .collectionsUsed + 1)
 
 -- ---- events 3 and 4: a mandate changes
-
--- a mandate with another creditor, debtor bank, standing, mark that FRST is due, or last presented
-abbrev pub remade : Mandate → ℕ → ℕ → Standing → Bool → ℕ → Mandate
-remade m creditor bank standing first presented = record {
-  number = m .number;
-  creditor = creditor;
-  debtor = m .debtor;
-  bank = bank;
-  signed = m .signed;
-  code = m .code;
-  standing = standing;
-  first = first;
-  presented = presented;
-}
 
 -- a new debtor bank makes FRST due if the mandate is recurrent
 unfoldable pub changed : Change → Mandate → Mandate
@@ -191,16 +154,7 @@ stateAfter Reject date = Rejected
 stateAfter (Undo way) date = Undone date (undoingOf way)
 
 unfoldable pub treated : Treatment → ℕ → Collection → Collection
-treated t date k = record {
-  number = k .number;
-  creditor = k .creditor;
-  debtor = k .debtor;
-  cbank = k .cbank;
-  dbank = k .dbank;
-  amount = k .amount;
-  due = k .due;
-  state = stateAfter t date;
-}
+treated t date k = inState k (stateAfter t date)
 
 -- what an undoing posts, with the calendar days since the settled day
 abbrev pub undone : Way → ℕ → ℕ → ℕ → Postings
@@ -214,7 +168,7 @@ postTreated l Settle date k = withPostings l k (settlement (k .amount))
 postTreated l Reject date k = l
 postTreated l (Undo way) date k = withPostings l k (undone way (k .amount) (settledOn (k .state)) date)
 
--- ---- all ten
+-- ---- all kinds
 
 unfoldable pub effect : Ledger → ℕ → Action → Ledger
 effect l date (AddCreditor a b) = withCreditors (dated l date) (set (l .creditors) (a - 1) b)

@@ -7,4 +7,5 @@ pub mod Effects  -- "Ten events" and "Postings": what an accepted event does
 pub mod Step  -- the calls: one event, one query, a list of events
 pub mod Bounds  -- tables that are safe: fit, and no position further than the collections can have moved it
 pub mod Journal  -- "The journal"
+pub mod Noted  -- what the tables hold, as the journal notes it
 pub mod Promises  -- demand 3: what is promised of every list of events

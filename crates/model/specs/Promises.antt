@@ -1,6 +1,7 @@
 -- Demand 3: what is promised of every list of events, as one claim about the whole list. `Demand3` is the statement;
 -- `Kept` has its parts, in the order in which they are demanded. proofs/Laws/Theorem has the proof.
--- Then what is promised of one call: `Timing`, `MandatesNotAsked`, `UnusedRows`, and the answers in numbers. Assumes nothing.
+-- Then `AgreesFromAnyStart`, the claim about lists that start on any tables, and what is promised of one call: `Timing`, `MandatesNotAsked`,
+-- `UnusedRows`, and the answers in numbers. Assumes nothing.
 use mathlib.Core.Path.{_≡_}
 use mathlib.Core.Bool.{true, cond, _&&_}
 use mathlib.Core.List.{List, [], _∷_, _++_}
@@ -14,21 +15,23 @@ use Rattle.calendar.specs.Periods.{daysAfter, businessDaysAfter, monthsAfter, a
 use Rattle.calendar.specs.declared.DateAnswer.{DateAnswer}
 use Rattle.calendar.specs.declared.DateAnswer.the-variants.{Date}
 use Rattle.events.specs.declared.Event.{Event}
-use Rattle.events.specs.Promises.{among}
+use Rattle.common.specs.Tests.{among}
 use Rattle.tables.specs.Limits.{creditorCount, debtorCount, bankCount, stride}
 use Rattle.tables.specs.declared.Header.{Header}
-use Rattle.tables.specs.Ledger.{Ledger, ledger}
-use Rattle.tables.specs.Fitness.{sizesFit, fit}
-use Rattle.tables.specs.Opening.{opening, opened}
+use Rattle.tables.specs.Ledger.{Ledger, ledger, bankOf}
+use Rattle.fitness.specs.Fitness.{sizesFit, fit}
+use Rattle.opening.specs.Opening.{opening, opened}
 use Rattle.tables.specs.declared.Standing.the-variants.{Live}
 use Rattle.model.specs.declared.QueryAnswer.the-variants.{Figure}
-use Rattle.model.specs.Actions.{Treatment}
-use Rattle.model.specs.Actions.Action.{Treat}
+use Rattle.model.specs.declared.Treatment.{Treatment}
+use Rattle.model.specs.declared.Action.the-variants.{Treat}
 use Rattle.model.specs.Deadlines.{keptDue, timely}
+use Rattle.model.specs.Lookups.{mandateOf, collectionOf}
 use Rattle.model.specs.Lookups.Known.{known}
 use Rattle.model.specs.Checks.{ruled}
 use Rattle.model.specs.Step.{answerNumber, answer, eventNumber, after, inQuery, figureOf, query, queryNumber, answered, run, Entry, history}
-use Rattle.model.specs.Journal.{NotedMandate, NotedCollection, journal, figureIn}
+use Rattle.model.specs.Journal.{NotedMandate, NotedCollection, Journal, journalFrom, journal, figureIn}
+use Rattle.model.specs.Noted.{notedKnown, SameKnown, started}
 
 -- ---- sums of what the ledger answers
 
@@ -136,6 +139,25 @@ Demand3 =
     (t : Ledger) → sizesFit t ≡ true  -- any lent tables that an accepted opening was called on
     → (es : List Event)  -- any list of events, accepted and refused ones
     → Kept (opened t) es
+
+-- ---- lists that start on any tables
+
+-- a ledger and a journal agree, of a list that started on the ledger `base`: what the one holds the other has noted, and every figure is
+-- that of base and the journal's together
+pub record Agrees (base l : Ledger) (j : Journal) : Type 0 where
+  pub banks : (a : ℕ) → bankOf (l .creditors) a ≡ j .banks a
+  pub mandates : (n : ℕ) → notedKnown (mandateOf l n) ≡ j .mandates n
+  pub collections : (n : ℕ) → SameKnown (collectionOf l n) (j .collections n)
+  pub figures : (kind number : ℕ) → figureOf l kind number ≡ figureOf base kind number +ℤ figureIn j kind number
+
+-- whatever tables a list starts on, fit or not, it moves every figure by exactly what the journal notes
+pub record AgreesFromAnyStart : Type 0 where
+  -- any tables agree with the journal that starts on them
+  pub at-start : (l : Ledger) → Agrees l l (started l)
+  -- a ledger and a journal that agree do so after every list
+  pub after-list :
+      (base l : Ledger) (j : Journal) → Agrees base l j
+      → (es : List Event) → Agrees base (run l es) (journalFrom j (history l es))
 
 -- ---- the time of a collect
 

@@ -17,7 +17,7 @@ use Rattle.events.specs.Limits.{within, kinds, fieldsFit, checked}
 use Rattle.positions.specs.Positions.{position}
 use Rattle.tables.specs.Limits.{creditorCount, debtorCount, bankCount}
 use Rattle.tables.specs.Ledger.{Ledger}
-use Rattle.tables.specs.Fitness.{fit}
+use Rattle.fitness.specs.Fitness.{fit}
 use Rattle.model.specs.declared.Answer.{Answer}
 use Rattle.model.specs.declared.Answer.the-variants.{Accepted, Refused}
 use Rattle.model.specs.declared.QueryAnswer.{QueryAnswer}

@@ -15,13 +15,3 @@ compensationLimit = 277472249997
 -- what one row moves a position by at most: A when settled, A + K when undone
 abbrev pub rowMove : ℕ
 rowMove = amountLimit + (amountLimit + compensationLimit)
-
--- ---- with the days of a refund in time
-
--- 13 months, 30 days and 4 business days are no more than 403, 30 and 20 days
-abbrev pub refundDays : ℕ
-refundDays = 453
-
--- the largest compensation of a refund in time
-abbrev pub refundLimit : ℕ
-refundLimit = 125820749999

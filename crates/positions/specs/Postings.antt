@@ -1,7 +1,7 @@
 -- What an event of money posts. Document 01, "Postings"; A is the amount of the collection and K the compensation.
 -- The effect on the tables takes these amounts; the journal has its own words. Assumes nothing.
 use Prim.Native.Nat.{ℕ, _+_}
-use lib.IntN.{ℤ, pos, negℤ, _+ℤ_}
+use lib.IntN.{pos, negℤ}
 use Rattle.positions.specs.declared.Postings.{Postings}
 
 abbrev pub settlement : ℕ → Postings
@@ -35,11 +35,3 @@ refunded A K = record {
   cbank = negℤ (pos (A + K));
   compensation = pos K;
 }
-
--- ---- what is promised of each: both sums are zero
-
-abbrev pub partySum : Postings → ℤ
-partySum p = p .debtor +ℤ p .creditor +ℤ p .compensation
-
-abbrev pub bankSum : Postings → ℤ
-bankSum p = p .dbank +ℤ p .cbank

@@ -6,7 +6,7 @@ use Prim.Native.Nat.{ℕ, _-_}
 use lib.Dec.{eqb}
 use lib.ListN.{length, getD}
 use Rattle.common.specs.Walk.{firstFrom}
-use Rattle.events.specs.Line.{lineEnd}
+use Rattle.lines.specs.Line.{lineEnd}
 use Rattle.report.specs.declared.cut.LineEnd.{LineEnd}
 use Rattle.report.specs.declared.cut.LineEnd.the-variants.{At, NoEnd}
 

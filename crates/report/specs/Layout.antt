@@ -1,41 +1,16 @@
--- The lines that the program `ledger` writes. Document 01, "The text line". Bytes are numbers; `fieldBytes`, a number to the
--- right edge of its field, and `pasted`, a buffer with bytes written to it, are those of the input's line. Assumes nothing.
+-- The lines that the program `ledger` writes. Document 01, "The text line". Bytes are numbers; a number in its field is that of
+-- crates/digits, `fieldBytes` without a sign and `signedBytes` with one. Assumes nothing.
 use mathlib.Core.Bool.{Bool, cond, _&&_}
 use mathlib.Core.List.{List, [], _∷_, _++_}
-use Prim.Native.Nat.{ℕ, zero, suc, _+_, _/_}
-use lib.Dec.{leb, eqb}
-use lib.IntN.{ℤ, pos, negsuc, natAbs}
+use Prim.Native.Nat.{ℕ}
+use lib.Dec.{leb}
+use lib.IntN.{ℤ}
 use lib.ListN.{length}
 use Rattle.positions.specs.Positions.{positionLimit, within}
-use Rattle.events.specs.Line.{blank, lastDigit, lineEnd, fieldBytes}
+use Rattle.digits.specs.Field.{fieldBytes, signedBytes, hasRoom}
+use Rattle.lines.specs.Line.{lineEnd}
 use Rattle.report.specs.declared.layout.Placed.{Placed}
 use Rattle.report.specs.declared.layout.Placed.the-variants.{Written, NoRoom}
-
--- ---- a number with a sign
-
-abbrev pub minus : ℕ
-minus = 45
-
--- what stands directly before the digits
-abbrev pub signOf : ℤ → ℕ
-signOf (pos n) = blank
-signOf (negsuc n) = minus
-
--- a number above 0 to the right edge of w columns, the sign directly before it and blanks before that; of 0 the sign alone
-unfoldable pub signedPadded : ℕ → ℕ → ℕ → List ℕ
-signedPadded zero sign v = []
-signedPadded (suc w) sign v =
-    cond (eqb v 0)
-    (signedPadded w blank v ++ (sign ∷ []))
-    (signedPadded w sign (v / 10) ++ (lastDigit v ∷ []))
-
--- a field of w columns: a number to its right edge, at least one digit, the sign directly before it and blanks before that
-unfoldable pub signedField : ℕ → ℕ → ℕ → List ℕ
-signedField zero sign v = []
-signedField (suc w) sign v = signedPadded w sign (v / 10) ++ (lastDigit v ∷ [])
-
-abbrev pub signedBytes : ℕ → ℤ → List ℕ
-signedBytes w z = signedField w (signOf z) (natAbs z)
 
 -- ---- the two lines
 
@@ -66,11 +41,11 @@ lastNumber = 999999
 
 unfoldable pub answerFits : ℕ → ℕ → ℕ → List ℕ → Bool
 answerFits at number answer out =
-    leb (at + answerLength) (length out) && leb number lastNumber && leb answer lastAnswer
+    hasRoom at answerLength (length out) && leb number lastNumber && leb answer lastAnswer
 
 unfoldable pub positionFits : ℕ → ℕ → ℕ → ℤ → List ℕ → Bool
 positionFits at kind number cents out =
-    leb (at + positionLength) (length out) && leb kind widestKind && leb number lastNumber && within positionLimit cents
+    hasRoom at positionLength (length out) && leb kind widestKind && leb number lastNumber && within positionLimit cents
 
 abbrev pub placed : Bool → Placed
 placed fits = cond fits Written NoRoom

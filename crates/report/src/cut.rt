@@ -1,7 +1,7 @@
 // Where a line of the input ends: specs/Cut.
 ghost use mathlib.Core.Path.{_≡_};
 ghost use Prim.Native.Nat.{_+_};
-ghost use Rattle.events.specs.Line.{columns};
+ghost use Rattle.lines.specs.Line.{columns};
 ghost use Rattle.report.specs.Cut.{endFrom, isNone, isAt};
 
 // The place of the byte that ends a line.

@@ -2,12 +2,15 @@
 ghost use mathlib.Core.Path.{_≡_};
 ghost use mathlib.Core.Bool.{true, cond};
 ghost use Prim.Native.Nat.{_+_, _≤_};
-ghost use lib.Dec.{leb};
 ghost use lib.IntN.{natAbs};
 ghost use lib.ListN.{length};
 ghost use Rattle.positions.specs.Positions.{positionLimit, within};
-ghost use Rattle.events.specs.Line.{lastDigit, pasted};
-ghost use Rattle.report.specs.Layout.{signOf, signedField, answerLength, answerLine, answerFits, positionLength, positionLine, positionFits, placed};
+ghost use Rattle.digits.specs.Field.{pasted};
+ghost use Rattle.report.specs.Layout.{answerLength, answerLine, answerFits, positionLength, positionLine, positionFits, placed};
+use digits::BLANK;
+use digits::has_room;
+use digits::writing::put;
+use digits::writing::sign;
 use positions::posting::in_limit;
 
 // Whether a line was written.
@@ -30,34 +33,6 @@ const LAST_KIND: u64 = 99;
 
 const LINE_END: u8 = 10;
 
-const BLANK: u8 = 32;
-
-const MINUS: u8 = 45;
-
-// Whether some bytes have room from a place on in a buffer of a length.
-fn has_room(long: usize, at: usize, bytes: usize) -> bool
-    ensures { λ r. ⌜ r ≡ leb (at + bytes) long ⌝ }
-{
-    if long < bytes {
-        return false;
-    }
-    at <= long - bytes
-}
-
-// The byte of the last digit of v.
-fn last_digit(v: u64) -> u8
-    ensures { λ r. ⌜ r ≡ lastDigit v ⌝ }
-{
-    (48 + v % 10) as u8
-}
-
-// What stands before the digits of a number of cents.
-fn sign(cents: i64) -> u8
-    ensures { λ r. ⌜ r ≡ signOf cents ⌝ }
-{
-    if cents < 0 { MINUS } else { BLANK }
-}
-
 // How far a number of cents lies from 0.
 fn size(cents: i64) -> u64
     requires { ⌜ within positionLimit cents ≡ true ⌝ }
@@ -67,27 +42,6 @@ fn size(cents: i64) -> u64
         return (-cents) as u64;
     }
     cents as u64
-}
-
-// Writes v to the right edge of the field of a width at a place, the sign before its digits, and blanks before that.
-fn put(out: &mut [u8], at: usize, width: usize, sign: u8, v: u64)
-    requires { ⌜ (1 ≤ width) × (at + width ≤ length (now out)) ⌝ }
-    ensures { λ _. ⌜ now (out .exit) ≡ pasted at (signedField width sign v) (now (out .entry)) ⌝ }
-{
-    let mut i = at + width - 1;
-    let mut rest = v / 10;
-    let mut fill = sign;
-    out[i] = last_digit(v);
-    while at < i {
-        i -= 1;
-        if rest == 0 {
-            out[i] = fill;
-            fill = BLANK;
-        } else {
-            out[i] = last_digit(rest);
-            rest = rest / 10;
-        }
-    }
 }
 
 // Writes the answer line of a line's number to a place that has room for it.

@@ -14,7 +14,7 @@ use Rattle.positions.specs.Compensation.{amountLimit}
 use Rattle.positions.specs.Limits.{rowMove}
 use Rattle.positions.specs.Positions.{within}
 use Rattle.tables.specs.Ledger.{Ledger}
-use Rattle.tables.specs.Fitness.{fit}
+use Rattle.fitness.specs.Fitness.{fit}
 use Rattle.model.specs.Bounds.{spent}
 
 -- ---- positions

@@ -8,16 +8,14 @@ ghost use Rattle.tables.specs.Rows.{rows};
 ghost use Rattle.model.specs.Bounds.{sumRows, movedAt};
 ghost use Rattle.safety.specs.Safety.{tagMoved, between, allBetween, isSafe};
 use common::AMOUNT_LIMIT;
+use fitness::fitness::is_fit;
 use positions::COMPENSATION_LIMIT;
 use tables::Header;
-use tables::fitness::is_fit;
+use tables::collection_column;
 use tables::rows::STRIDE;
 
 // What one row moves a position by at most: an amount when settled, an amount and its compensation when undone.
 const ROW_MOVE: u64 = AMOUNT_LIMIT + (AMOUNT_LIMIT + COMPENSATION_LIMIT);
-
-// The cell of a collection row that holds the tag of its state.
-const TAG: usize = 7;
 
 // What a row has moved at most, by the tag of its state.
 fn tag_moved(tag: u64) -> u64
@@ -40,7 +38,7 @@ fn sum_moved(cells: &[u64], used: usize) -> u64
     let mut sum: u64 = 0;
     let mut i: usize = 0;
     while i < used {
-        sum += tag_moved(cells[i * STRIDE + TAG]);
+        sum += tag_moved(cells[i * STRIDE + collection_column::STATE]);
         i += 1;
     }
     sum

@@ -3,5 +3,3 @@ pub mod Records  -- a record read from its own cells is the record
 pub mod Rows  -- get after put, in the row and outside it
 pub mod Ledger  -- a creditor's bank
 pub mod Lookup  -- what a lookup says, and what a written row does to it
-pub mod Fitness  -- fitness by named facts, and what keeps it
-pub mod Opening  -- the cleared tables

@@ -2,6 +2,6 @@
 use Prim.Native.Nat.{ℕ}
 pub use Rattle.common.specs.Limits.{creditorCount, debtorCount, bankCount, numberLimit, amountLimit, mandateRowLimit, collectionRowLimit, positionLimit}
 
--- the cells of a row, in either table
+-- the cells of a row, in either table; a record with fewer fields has 0 in the cells behind them
 abbrev pub stride : ℕ
 stride = 9

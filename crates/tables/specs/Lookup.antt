@@ -12,7 +12,7 @@ use Rattle.tables.specs.declared.Found.the-variants.{At, Nothing}
 use Rattle.tables.specs.Limits.{stride}
 use Rattle.tables.specs.Rows.{rows}
 
--- a row's number stands in its first cell
+-- a row's number stands in its first cell: `mandateAt-number`, `collectionAt-number`
 abbrev pub numberAt : List ℕ → ℕ → ℕ
 numberAt cells row = getD cells (row * stride) 0
 

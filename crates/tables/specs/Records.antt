@@ -1,11 +1,12 @@
--- Document 01, "Records": a mandate and a collection as cells, one a field, and back. A new field is one more cell in
--- `mandateCells` and `mandateOf`, or `collectionCells` and `collectionOf`, and a stride with room for it.
+-- Document 01, "Records": a mandate and a collection as the cells of a row, and back; and with some fields anew. A new field
+-- is a column, a cell of `mandateCells`, and a line of `mandateOf` and `remade` (or of `collectionCells`, `collectionOf` and
+-- `inState`); the stride must have room for it.
 -- To cite: proofs/Laws/Records. Assumes nothing.
 use mathlib.Core.Bool.{Bool, true, false, cond, not}
-use mathlib.Core.List.{List, [], _∷_}
-use Prim.Native.Nat.{ℕ}
+use mathlib.Core.List.{List, [], _∷_, _++_}
+use Prim.Native.Nat.{ℕ, _-_}
 use lib.Dec.{eqb}
-use lib.ListN.{getD}
+use lib.ListN.{length, getD, replicate}
 use Rattle.tables.specs.declared.Mandate.{Mandate}
 use Rattle.tables.specs.declared.Standing.{Standing}
 use Rattle.tables.specs.declared.Standing.the-variants.{Live, Closed, Cancelled}
@@ -14,6 +15,13 @@ use Rattle.tables.specs.declared.State.{State}
 use Rattle.tables.specs.declared.State.the-variants.{Presented, Rejected, Settled, Undone}
 use Rattle.tables.specs.declared.Undoing.{Undoing}
 use Rattle.tables.specs.declared.Undoing.the-variants.{Return, Refund, Reversal}
+use Rattle.tables.specs.Limits.{stride}
+use Rattle.tables.specs.MandateColumn
+use Rattle.tables.specs.CollectionColumn
+
+-- the cells of a row: fields in their columns, and 0 behind the last
+abbrev pub filled : List ℕ → List ℕ
+filled fields = fields ++ replicate (stride - length fields) 0
 
 -- ---- a mandate
 
@@ -37,7 +45,8 @@ flagOf x = not (eqb x 0)
 
 abbrev pub mandateCells : Mandate → List ℕ
 mandateCells m =
-    m .number
+    filled
+    (m .number
     ∷ m .creditor
     ∷ m .debtor
     ∷ m .bank
@@ -46,19 +55,33 @@ mandateCells m =
     ∷ standingTag (m .standing)
     ∷ flagCell (m .first)
     ∷ m .presented
-    ∷ []
+    ∷ [])
 
 unfoldable pub mandateOf : List ℕ → Mandate
 mandateOf fields = record {
-  number = getD fields 0 0;
-  creditor = getD fields 1 0;
-  debtor = getD fields 2 0;
-  bank = getD fields 3 0;
-  signed = getD fields 4 0;
-  code = getD fields 5 0;
-  standing = standingOf (getD fields 6 0);
-  first = flagOf (getD fields 7 0);
-  presented = getD fields 8 0;
+  number = getD fields MandateColumn.number 0;
+  creditor = getD fields MandateColumn.creditor 0;
+  debtor = getD fields MandateColumn.debtor 0;
+  bank = getD fields MandateColumn.bank 0;
+  signed = getD fields MandateColumn.signed 0;
+  code = getD fields MandateColumn.code 0;
+  standing = standingOf (getD fields MandateColumn.standing 0);
+  first = flagOf (getD fields MandateColumn.first 0);
+  presented = getD fields MandateColumn.presented 0;
+}
+
+-- the mandate with another creditor, debtor bank, standing, mark that FRST is due, or last presented
+abbrev pub remade : Mandate → ℕ → ℕ → Standing → Bool → ℕ → Mandate
+remade m creditor bank standing first presented = record {
+  number = m .number;
+  creditor = creditor;
+  debtor = m .debtor;
+  bank = bank;
+  signed = m .signed;
+  code = m .code;
+  standing = standing;
+  first = first;
+  presented = presented;
 }
 
 -- ---- a collection
@@ -91,7 +114,8 @@ stateOf tag day =
 
 abbrev pub collectionCells : Collection → List ℕ
 collectionCells c =
-    c .number
+    filled
+    (c .number
     ∷ c .creditor
     ∷ c .debtor
     ∷ c .cbank
@@ -100,16 +124,29 @@ collectionCells c =
     ∷ c .due
     ∷ stateTag (c .state)
     ∷ stateDay (c .state)
-    ∷ []
+    ∷ [])
 
 unfoldable pub collectionOf : List ℕ → Collection
 collectionOf fields = record {
-  number = getD fields 0 0;
-  creditor = getD fields 1 0;
-  debtor = getD fields 2 0;
-  cbank = getD fields 3 0;
-  dbank = getD fields 4 0;
-  amount = getD fields 5 0;
-  due = getD fields 6 0;
-  state = stateOf (getD fields 7 0) (getD fields 8 0);
+  number = getD fields CollectionColumn.number 0;
+  creditor = getD fields CollectionColumn.creditor 0;
+  debtor = getD fields CollectionColumn.debtor 0;
+  cbank = getD fields CollectionColumn.cbank 0;
+  dbank = getD fields CollectionColumn.dbank 0;
+  amount = getD fields CollectionColumn.amount 0;
+  due = getD fields CollectionColumn.due 0;
+  state = stateOf (getD fields CollectionColumn.state 0) (getD fields CollectionColumn.day 0);
+}
+
+-- the collection in another state
+abbrev pub inState : Collection → State → Collection
+inState c state = record {
+  number = c .number;
+  creditor = c .creditor;
+  debtor = c .debtor;
+  cbank = c .cbank;
+  dbank = c .dbank;
+  amount = c .amount;
+  due = c .due;
+  state = state;
 }

@@ -1,12 +1,11 @@
-// Document 01, "Records", in lent memory: mandates and collections in rows of cells, lookup by number, fitness
-// (refusal 2) and the opening. The lender gives any sizes and any content, and every public function answers for them.
+// Document 01, "Records", in lent memory: mandates and collections in rows of cells, lookup by number, creditors and their banks.
+// The lender gives any sizes and any content, and every public function answers for them.
+pub mod anew;
+pub mod collection_column;
 pub mod creditors;
-pub mod fitness;
 pub mod lookup;
-pub mod opening;
+pub mod mandate_column;
 pub mod rows;
-
-use refusals::Refusal;
 
 // What is lent beside the tables: the latest date, the rows used and the total compensation in cents.
 pub struct Header {
@@ -66,15 +65,4 @@ pub struct Collection {
 pub enum Found {
     At(usize),
     Nothing,
-}
-
-pub enum OpenAnswer {
-    Opened,
-    Refused(Refusal),
-}
-
-// The answer of an opening, and the header after it.
-pub struct OpenOutcome {
-    pub answer: OpenAnswer,
-    pub header: Header,
 }

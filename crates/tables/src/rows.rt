@@ -10,6 +10,8 @@ use crate::Mandate;
 use crate::Standing;
 use crate::State;
 use crate::Undoing;
+use crate::collection_column;
+use crate::mandate_column;
 
 // The cells of a row, in either table.
 pub const STRIDE: usize = 9;
@@ -81,21 +83,21 @@ fn flag_cell(first: bool) -> u64
 pub fn mandate_at(cells: &[u64], row: usize) -> Mandate
     ensures { λ r. ⌜ r ≡ mandateAt (now (cells .entry)) row ⌝ }
 {
-    let s = standing_of(cell(cells, row, 6));
+    let s = standing_of(cell(cells, row, mandate_column::STANDING));
     Mandate {
-        number: cell(cells, row, 0),
-        creditor: cell(cells, row, 1),
-        debtor: cell(cells, row, 2),
-        bank: cell(cells, row, 3),
-        signed: cell(cells, row, 4),
-        code: cell(cells, row, 5),
+        number: cell(cells, row, mandate_column::NUMBER),
+        creditor: cell(cells, row, mandate_column::CREDITOR),
+        debtor: cell(cells, row, mandate_column::DEBTOR),
+        bank: cell(cells, row, mandate_column::BANK),
+        signed: cell(cells, row, mandate_column::SIGNED),
+        code: cell(cells, row, mandate_column::CODE),
         standing: s,
-        first: cell(cells, row, 7) != 0,
-        presented: cell(cells, row, 8),
+        first: cell(cells, row, mandate_column::FIRST) != 0,
+        presented: cell(cells, row, mandate_column::PRESENTED),
     }
 }
 
-// The cells of a mandate, in the order of specs/Records.
+// The cells of a mandate, in the order of its columns.
 fn mandate_cells(m: Mandate) -> [u64; STRIDE]
     ensures { λ r. ⌜ r ≡ mandateCells m ⌝ }
 {
@@ -166,20 +168,23 @@ fn state_day(s: State) -> u64
 pub fn collection_at(cells: &[u64], row: usize) -> Collection
     ensures { λ r. ⌜ r ≡ collectionAt (now (cells .entry)) row ⌝ }
 {
-    let s = state_of(cell(cells, row, 7), cell(cells, row, 8));
+    let s = state_of(
+        cell(cells, row, collection_column::STATE),
+        cell(cells, row, collection_column::DAY),
+    );
     Collection {
-        number: cell(cells, row, 0),
-        creditor: cell(cells, row, 1),
-        debtor: cell(cells, row, 2),
-        cbank: cell(cells, row, 3),
-        dbank: cell(cells, row, 4),
-        amount: cell(cells, row, 5),
-        due: cell(cells, row, 6),
+        number: cell(cells, row, collection_column::NUMBER),
+        creditor: cell(cells, row, collection_column::CREDITOR),
+        debtor: cell(cells, row, collection_column::DEBTOR),
+        cbank: cell(cells, row, collection_column::CBANK),
+        dbank: cell(cells, row, collection_column::DBANK),
+        amount: cell(cells, row, collection_column::AMOUNT),
+        due: cell(cells, row, collection_column::DUE),
         state: s,
     }
 }
 
-// The cells of a collection, in the order of specs/Records.
+// The cells of a collection, in the order of its columns.
 fn collection_cells(c: Collection) -> [u64; STRIDE]
     ensures { λ r. ⌜ r ≡ collectionCells c ⌝ }
 {

@@ -1,22 +1,30 @@
 // Lent memory of every sort that refusal 2 of document 01 names, with the answer that it gets, and fit memory that a
 // hasty reading would refuse. Each case is the ledger of `lent` with one thing changed; a line is its name and the
 // answer, 2 or 0. The names of the cases say what is expected of them and why; stdout holds the answers.
+use fitness::fitness::is_fit;
 use libc::STDOUT_FILENO;
+use opening::OpenAnswer;
+use opening::open_ledger;
 use refusals::Refusal;
 use refusals::number_of;
 use tables::Collection;
 use tables::Found;
 use tables::Header;
 use tables::Mandate;
-use tables::OpenAnswer;
 use tables::Standing;
 use tables::State;
 use tables::Undoing;
-use tables::fitness::is_fit;
+use tables::collection_column;
 use tables::lookup::find;
-use tables::opening::open_ledger;
+use tables::mandate_column;
+use tables::rows::STRIDE;
 use tables::rows::put_collection;
 use tables::rows::put_mandate;
+
+// The rows of the tables of the cases.
+const MANDATES: usize = 3;
+
+const COLLECTIONS: usize = 5;
 
 // A limit of positions and of the compensation, in cents.
 const LIMIT: i64 = 10000000000000000;
@@ -129,8 +137,8 @@ fn unposted(name: &[u8], header: Header, mandates: &[u64], collections: &[u64], 
 // The ledger of `lent` with another header, cell k of the mandates v and cell j of the collections w. A cell past the
 // end changes nothing; cell k of the first row is cell k of the table.
 fn lent_case(name: &[u8], header: Header, k: usize, v: u64, j: usize, w: u64) {
-    let mut mandates = [0u64; 27];
-    let mut collections = [0u64; 45];
+    let mut mandates = [0u64; MANDATES * STRIDE];
+    let mut collections = [0u64; COLLECTIONS * STRIDE];
     let mut creditors = [0u64; 256];
     lent(&mut mandates, &mut collections, &mut creditors);
     set_cell(&mut mandates, k, v);
@@ -139,28 +147,35 @@ fn lent_case(name: &[u8], header: Header, k: usize, v: u64, j: usize, w: u64) {
 }
 
 fn mandate_case(name: &[u8], k: usize, v: u64) {
-    lent_case(name, head(20240412, 2, 4, 10), k, v, 45, 0);
+    lent_case(
+        name,
+        head(20240412, 2, 4, 10),
+        k,
+        v,
+        COLLECTIONS * STRIDE,
+        0,
+    );
 }
 
 fn collection_case(name: &[u8], k: usize, v: u64) {
-    lent_case(name, head(20240412, 2, 4, 10), 27, 0, k, v);
+    lent_case(name, head(20240412, 2, 4, 10), MANDATES * STRIDE, 0, k, v);
 }
 
 fn header_case(name: &[u8], latest: u64, mandates: usize, collections: usize, cents: i64) {
     lent_case(
         name,
         head(latest, mandates, collections, cents),
-        27,
+        MANDATES * STRIDE,
         0,
-        45,
+        COLLECTIONS * STRIDE,
         0,
     );
 }
 
 // One entry of the creditor table and its position, and a position of a debtor and a bank.
 fn party_case(name: &[u8], entry: usize, bank: u64, creditor: i64, debtor: i64, other: i64) {
-    let mut mandates = [0u64; 27];
-    let mut collections = [0u64; 45];
+    let mut mandates = [0u64; MANDATES * STRIDE];
+    let mut collections = [0u64; COLLECTIONS * STRIDE];
     let mut creditors = [0u64; 256];
     let mut creditor_positions = [0i64; 256];
     let mut debtor_positions = [0i64; 4096];
@@ -224,8 +239,8 @@ fn parties_case(
     let header = head(0, 0, 0, 0);
     let fit = is_fit(
         header,
-        &[0u64; 9],
-        &[0u64; 9],
+        &[0u64; STRIDE],
+        &[0u64; STRIDE],
         &cells[..creditors],
         &zeros[..held],
         &zeros[..debtors],
@@ -235,15 +250,20 @@ fn parties_case(
 }
 
 fn row_counts(cells: &[u64]) {
-    rows_case(b"one row of each, fit", cells, 9, 9);
-    rows_case(b"no mandate row", cells, 0, 9);
-    rows_case(b"no collection row", cells, 9, 0);
-    rows_case(b"two mandate rows less a cell", cells, 17, 9);
-    rows_case(b"a collection row and a cell", cells, 9, 10);
-    rows_case(b"4096 mandate rows, fit", cells, 36864, 9);
-    rows_case(b"4097 mandate rows", cells, 36873, 9);
-    rows_case(b"16384 collection rows, fit", cells, 9, 147456);
-    rows_case(b"16385 collection rows", cells, 9, 147465);
+    rows_case(b"one row of each, fit", cells, STRIDE, STRIDE);
+    rows_case(b"no mandate row", cells, 0, STRIDE);
+    rows_case(b"no collection row", cells, STRIDE, 0);
+    rows_case(
+        b"two mandate rows less a cell",
+        cells,
+        2 * STRIDE - 1,
+        STRIDE,
+    );
+    rows_case(b"a collection row and a cell", cells, STRIDE, STRIDE + 1);
+    rows_case(b"4096 mandate rows, fit", cells, 4096 * STRIDE, STRIDE);
+    rows_case(b"4097 mandate rows", cells, 4097 * STRIDE, STRIDE);
+    rows_case(b"16384 collection rows, fit", cells, STRIDE, 16384 * STRIDE);
+    rows_case(b"16385 collection rows", cells, STRIDE, 16385 * STRIDE);
 }
 
 fn party_sizes(cells: &[u64], zeros: &[i64]) {
@@ -273,40 +293,88 @@ fn headers() {
 }
 
 fn mandate_fields() {
-    mandate_case(b"mandate number 0", 0, 0);
-    mandate_case(b"mandate number 1000000000", 0, 1000000000);
-    mandate_case(b"mandate of creditor 0", 1, 0);
-    mandate_case(b"mandate of creditor 257", 1, 257);
-    mandate_case(b"mandate of a creditor not added", 1, 2);
-    mandate_case(b"mandate of debtor 0", 2, 0);
-    mandate_case(b"mandate of debtor 4097", 2, 4097);
-    mandate_case(b"mandate at bank 0", 3, 0);
-    mandate_case(b"mandate at bank 65", 3, 65);
-    mandate_case(b"signed on 20230229", 4, 20230229);
-    mandate_case(b"signed before the range", 4, 20091231);
-    mandate_case(b"kind 2", 5, 2);
-    mandate_case(b"standing 3", 6, 3);
-    mandate_case(b"FRST cell 2", 7, 2);
-    mandate_case(b"last presented on 20240431", 8, 20240431);
-    mandate_case(b"the last row's standing 3", 15, 3);
+    mandate_case(b"mandate number 0", mandate_column::NUMBER, 0);
+    mandate_case(
+        b"mandate number 1000000000",
+        mandate_column::NUMBER,
+        1000000000,
+    );
+    mandate_case(b"mandate of creditor 0", mandate_column::CREDITOR, 0);
+    mandate_case(b"mandate of creditor 257", mandate_column::CREDITOR, 257);
+    mandate_case(
+        b"mandate of a creditor not added",
+        mandate_column::CREDITOR,
+        2,
+    );
+    mandate_case(b"mandate of debtor 0", mandate_column::DEBTOR, 0);
+    mandate_case(b"mandate of debtor 4097", mandate_column::DEBTOR, 4097);
+    mandate_case(b"mandate at bank 0", mandate_column::BANK, 0);
+    mandate_case(b"mandate at bank 65", mandate_column::BANK, 65);
+    mandate_case(b"signed on 20230229", mandate_column::SIGNED, 20230229);
+    mandate_case(b"signed before the range", mandate_column::SIGNED, 20091231);
+    mandate_case(b"kind 2", mandate_column::CODE, 2);
+    mandate_case(b"standing 3", mandate_column::STANDING, 3);
+    mandate_case(b"FRST cell 2", mandate_column::FIRST, 2);
+    mandate_case(
+        b"last presented on 20240431",
+        mandate_column::PRESENTED,
+        20240431,
+    );
+    mandate_case(
+        b"the last row's standing 3",
+        STRIDE + mandate_column::STANDING,
+        3,
+    );
 }
 
 fn collection_fields() {
-    collection_case(b"collection number 0", 0, 0);
-    collection_case(b"collection number 1000000000", 0, 1000000000);
-    collection_case(b"collection of creditor 257", 1, 257);
-    collection_case(b"collection of a creditor not added", 1, 2);
-    collection_case(b"collection of debtor 4097", 2, 4097);
-    collection_case(b"creditor bank 65", 3, 65);
-    collection_case(b"debtor bank 0", 4, 0);
-    collection_case(b"amount 0", 5, 0);
-    collection_case(b"amount 100000000000", 5, 100000000000);
-    collection_case(b"kept due 21900101", 6, 21900101);
-    collection_case(b"state 6", 7, 6);
-    collection_case(b"settled on 0", 26, 0);
-    collection_case(b"settled on 20240230", 26, 20240230);
-    collection_case(b"settled after the latest date", 26, 20240413);
-    collection_case(b"undone after the latest date", 35, 20240413);
+    collection_case(b"collection number 0", collection_column::NUMBER, 0);
+    collection_case(
+        b"collection number 1000000000",
+        collection_column::NUMBER,
+        1000000000,
+    );
+    collection_case(
+        b"collection of creditor 257",
+        collection_column::CREDITOR,
+        257,
+    );
+    collection_case(
+        b"collection of a creditor not added",
+        collection_column::CREDITOR,
+        2,
+    );
+    collection_case(
+        b"collection of debtor 4097",
+        collection_column::DEBTOR,
+        4097,
+    );
+    collection_case(b"creditor bank 65", collection_column::CBANK, 65);
+    collection_case(b"debtor bank 0", collection_column::DBANK, 0);
+    collection_case(b"amount 0", collection_column::AMOUNT, 0);
+    collection_case(
+        b"amount 100000000000",
+        collection_column::AMOUNT,
+        100000000000,
+    );
+    collection_case(b"kept due 21900101", collection_column::DUE, 21900101);
+    collection_case(b"state 6", collection_column::STATE, 6);
+    collection_case(b"settled on 0", 2 * STRIDE + collection_column::DAY, 0);
+    collection_case(
+        b"settled on 20240230",
+        2 * STRIDE + collection_column::DAY,
+        20240230,
+    );
+    collection_case(
+        b"settled after the latest date",
+        2 * STRIDE + collection_column::DAY,
+        20240413,
+    );
+    collection_case(
+        b"undone after the latest date",
+        3 * STRIDE + collection_column::DAY,
+        20240413,
+    );
 }
 
 fn parties() {
@@ -324,20 +392,72 @@ fn parties() {
 
 // Fit, though a hasty reading would refuse it.
 fn fit_all_the_same() {
-    mandate_case(b"two mandates of one number, fit", 9, 7);
-    collection_case(b"two collections of one number, fit", 9, 70);
-    collection_case(b"kept due on a Saturday, fit", 6, 20240330);
-    collection_case(b"settled on a Sunday, fit", 26, 20240407);
-    collection_case(b"settled before the kept due, fit", 26, 20240327);
-    collection_case(b"settled on the latest date, fit", 26, 20240412);
-    mandate_case(b"signed after the latest date, fit", 4, 20250101);
-    mandate_case(b"FRST due on a one-off, fit", 16, 1);
-    mandate_case(b"nothing presented yet, fit", 8, 0);
-    collection_case(b"another creditor bank than today's, fit", 3, 9);
-    collection_case(b"any day of a presented row, fit", 8, 99999999);
-    collection_case(b"any day of a rejected row, fit", 17, 20300101);
-    mandate_case(b"any cell of an unused mandate row, fit", 24, 77);
-    collection_case(b"any cell of an unused collection row, fit", 43, 77);
+    mandate_case(
+        b"two mandates of one number, fit",
+        STRIDE + mandate_column::NUMBER,
+        7,
+    );
+    collection_case(
+        b"two collections of one number, fit",
+        STRIDE + collection_column::NUMBER,
+        70,
+    );
+    collection_case(
+        b"kept due on a Saturday, fit",
+        collection_column::DUE,
+        20240330,
+    );
+    collection_case(
+        b"settled on a Sunday, fit",
+        2 * STRIDE + collection_column::DAY,
+        20240407,
+    );
+    collection_case(
+        b"settled before the kept due, fit",
+        2 * STRIDE + collection_column::DAY,
+        20240327,
+    );
+    collection_case(
+        b"settled on the latest date, fit",
+        2 * STRIDE + collection_column::DAY,
+        20240412,
+    );
+    mandate_case(
+        b"signed after the latest date, fit",
+        mandate_column::SIGNED,
+        20250101,
+    );
+    mandate_case(
+        b"FRST due on a one-off, fit",
+        STRIDE + mandate_column::FIRST,
+        1,
+    );
+    mandate_case(b"nothing presented yet, fit", mandate_column::PRESENTED, 0);
+    collection_case(
+        b"another creditor bank than today's, fit",
+        collection_column::CBANK,
+        9,
+    );
+    collection_case(
+        b"any day of a presented row, fit",
+        collection_column::DAY,
+        99999999,
+    );
+    collection_case(
+        b"any day of a rejected row, fit",
+        STRIDE + collection_column::DAY,
+        20300101,
+    );
+    mandate_case(
+        b"any cell of an unused mandate row, fit",
+        2 * STRIDE + mandate_column::STANDING,
+        77,
+    );
+    collection_case(
+        b"any cell of an unused collection row, fit",
+        4 * STRIDE + collection_column::STATE,
+        77,
+    );
     party_case(b"positions that add up to 1, fit", 0, 64, LIMIT, -LIMIT, 1);
 }
 
@@ -350,7 +470,7 @@ fn lookup_case(name: &[u8], cells: &[u64], used: usize, number: u64) {
 }
 
 fn lookups() {
-    let mut collections = [0u64; 45];
+    let mut collections = [0u64; COLLECTIONS * STRIDE];
     lent_collections(&mut collections);
     put_collection(&mut collections, 4, collection(70, State::Presented));
     lookup_case(b"the row of 72", &collections, 4, 72);
@@ -362,7 +482,7 @@ fn lookups() {
 
 // The opening's answer, and the answer to the memory after it.
 fn open_case(name: &[u8], mandates: &[u64], header: Header, bank: u64) {
-    let mut collections = [0u64; 45];
+    let mut collections = [0u64; COLLECTIONS * STRIDE];
     let mut creditors = [0u64; 256];
     let mut creditor_positions = [0i64; 256];
     let mut debtor_positions = [0i64; 4096];
@@ -401,13 +521,23 @@ fn open_case(name: &[u8], mandates: &[u64], header: Header, bank: u64) {
 
 fn openings() {
     let rubbish = head(77, 900, 900, -5);
-    open_case(b"opening over rubbish", &[77u64; 27], rubbish, 99);
-    open_case(b"opening of no whole rows", &[77u64; 26], rubbish, 99);
+    open_case(
+        b"opening over rubbish",
+        &[77u64; MANDATES * STRIDE],
+        rubbish,
+        99,
+    );
+    open_case(
+        b"opening of no whole rows",
+        &[77u64; MANDATES * STRIDE - 1],
+        rubbish,
+        99,
+    );
 }
 
 fn main() {
     let zeros = [0i64; 4097];
-    let cells = [0u64; 147465];
+    let cells = [0u64; 16385 * STRIDE];
     row_counts(&cells);
     party_sizes(&cells, &zeros);
     headers();

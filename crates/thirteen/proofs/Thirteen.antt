@@ -9,7 +9,7 @@ use Rattle.common.proofs.Every.{both, both-left, both-right}
 use Rattle.calendar.specs.Easter.{easterOf}
 use Rattle.positions.specs.Compensation.{compensation as compensationFor, interest, halfUp}
 use Rattle.tables.specs.Ledger.{Ledger}
-use Rattle.tables.specs.Opening.{fresh}
+use Rattle.opening.specs.Opening.{fresh}
 use Rattle.model.specs.Lookups.{mandateOf, collectionOf}
 use Rattle.model.specs.Step.{answerNumber}
 use Rattle.witness.specs.Opening.{lent}

@@ -10,12 +10,12 @@ use Rattle.calendar.specs.Periods.{monthsAfter}
 use Rattle.positions.specs.Compensation.{compensation as compensationFor}
 use Rattle.events.specs.declared.Event.{Event}
 use Rattle.tables.specs.Ledger.{Ledger}
-use Rattle.tables.specs.Opening.{opened}
+use Rattle.opening.specs.Opening.{opened}
 use Rattle.tables.specs.declared.Mandate.{Mandate}
 use Rattle.tables.specs.declared.Standing.the-variants.{Live}
 use Rattle.tables.specs.declared.Collection.{Collection}
 use Rattle.tables.specs.declared.State.the-variants.{Settled}
-use Rattle.model.specs.Deadlines.{dateIn, keptDue}
+use Rattle.model.specs.Deadlines.{dateFound, keptDue}
 use Rattle.model.specs.Lookups.{mandateOf, collectionOf}
 use Rattle.model.specs.Lookups.Known.{known}
 use Rattle.model.specs.Step.{answerNumber, answer, run}
@@ -87,9 +87,9 @@ collect date due = Answer (event 5 date 7 71 0 0 10000 due 1)
 
 -- what the definitions say
 abbrev pub said : Question → ℕ
-said (Easter year) = dateIn (easterOf year)
+said (Easter year) = dateFound (easterOf year)
 said (Kept requested) = keptDue requested
-said (Months n date) = dateIn (monthsAfter (record { 0 = n }) date)
+said (Months n date) = dateFound (monthsAfter (record { 0 = n }) date)
 said (Answer e) = answerNumber (answer book e)
 said (Cents amount rate days) = compensationFor amount rate days
 

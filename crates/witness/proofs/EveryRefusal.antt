@@ -2,7 +2,7 @@
 use mathlib.Core.Path.{_≡_, refl, ap}
 use mathlib.Core.Bool.{true}
 use Rattle.tables.specs.Ledger.{Ledger}
-use Rattle.tables.specs.Fitness.{sizesOf, sizesFit}
+use Rattle.fitness.specs.Fitness.{sizesOf, sizesFit}
 use Rattle.model.specs.Step.{query}
 use Rattle.model.specs.Lookups.{mandateOf, collectionOf}
 use Rattle.witness.specs.EveryRefusal.{small, cases, askedIn, stateIn, EveryRefusal, OutsideRefused}

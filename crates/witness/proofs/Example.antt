@@ -14,18 +14,19 @@ use Rattle.common.proofs.Tests.{and-halves, and-true, true-or-false}
 use Rattle.calendar.specs.Gregorian.{leap, leapDay}
 use Rattle.calendar.specs.DayNumber.{daysBefore, yearStart, dayNumber}
 use Rattle.positions.specs.Compensation.{compensation as compensationFor, interest, halfUp}
-use Rattle.events.specs.declared.line.LineAnswer.{LineAnswer}
-use Rattle.events.specs.Line.{padded, fieldBytes, readLine, readDigits, readNumber, readField}
+use Rattle.lines.specs.declared.line.LineAnswer.{LineAnswer}
+use Rattle.digits.specs.Field.{signedPadded, signedField, readDigits, readNumber, readField}
+use Rattle.lines.specs.Line.{readLine}
 use Rattle.tables.specs.Limits.{creditorCount, debtorCount, bankCount}
 use Rattle.tables.specs.Ledger.{Ledger}
-use Rattle.tables.specs.Opening.{Outcome, opened}
-use Rattle.tables.proofs.Laws.Opening.{opening-done}
+use Rattle.opening.specs.Opening.{Outcome, opened}
+use Rattle.opening.proofs.Laws.Opening.{opening-done}
 use Rattle.model.specs.declared.QueryAnswer.the-variants.{Figure}
 use Rattle.model.specs.Step.{inQuery, figureOf, query, run, Entry, history}
 use Rattle.model.specs.Journal.{Journal, newNoted, collectedOn, notedCollection, noteCollect, notedSettled, noteSettle, noteRefund, paidOn, noteKind, journalFrom, journal, figureIn}
 use Rattle.model.proofs.Laws.Theorem.{demand3}
-use Rattle.report.specs.Layout.{signedPadded, signedField, answerLine, positionLine}
-use Rattle.report.specs.Run.{runAt, takeText, toldText, toldFigures, toldKind, toldPositions}
+use Rattle.report.specs.Layout.{answerLine, positionLine}
+use Rattle.run.specs.Run.{runAt, takeText, toldText, toldFigures, toldKind, toldPositions}
 use Rattle.witness.specs.Opening.{lent, answers}
 use Rattle.witness.specs.Text.{textOf, readOf, takenOf, written}
 use Rattle.witness.specs.Example.{input, output, events, numbers, positions, centsIn, Example}
@@ -122,7 +123,7 @@ computed-lines :
     ++ toldFigures 3 (centsIn positions 3) bankCount
     ++ positionLine 4 0 (centsIn positions 4 0)
     ≡ textOf (drop (length numbers) output)
-unfolding toldFigures positionLine fieldBytes padded signedField signedPadded
+unfolding toldFigures positionLine signedField signedPadded
 computed-lines = refl
 
 four : {a a' b b' c c' d d' : List ℕ} → a ≡ a' → b ≡ b' → c ≡ c' → d ≡ d' → a ++ b ++ c ++ d ≡ a' ++ b' ++ c' ++ d'
@@ -167,7 +168,7 @@ module _ (l : Ledger) where
 -- ---- the statement
 
 writes : written (opened lent) (textOf input) ≡ textOf output
-unfolding answerLine fieldBytes padded
+unfolding answerLine signedField signedPadded
 writes = rw (told (opened lent), answered, taken (opened lent), listed)
 
 pub example : Example

@@ -21,9 +21,9 @@ use Rattle.tables.specs.Ledger.{Ledger, bankOf}
 use Rattle.tables.specs.Lookup.{lookup}
 use Rattle.tables.specs.Records.{mandateOf, collectionOf}
 use Rattle.tables.specs.Rows.{mandateAt, collectionAt, putRow}
-use Rattle.tables.specs.Fitness.{sizesOf, sizesFit, fit}
-use Rattle.tables.specs.Opening.{fresh, opened}
-use Rattle.tables.proofs.Laws.Opening.{opened-done}
+use Rattle.fitness.specs.Fitness.{sizesOf, sizesFit, fit}
+use Rattle.opening.specs.Opening.{fresh, opened}
+use Rattle.opening.proofs.Laws.Opening.{opened-done}
 use Rattle.model.specs.declared.Answer.{Answer}
 use Rattle.model.specs.declared.Answer.the-variants.{Accepted, Refused}
 use Rattle.model.specs.Actions.{newMandate, actionOf}

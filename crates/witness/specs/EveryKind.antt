@@ -9,10 +9,10 @@ use lib.ListN.{length, replicate}
 use Rattle.events.specs.declared.Event.{Event}
 use Rattle.events.specs.declared.limits.Checked.the-variants.{Within}
 use Rattle.events.specs.Limits.{checked}
-use Rattle.tables.specs.Opening.{opened}
+use Rattle.opening.specs.Opening.{opened}
 use Rattle.witness.specs.Opening.{event, lent, answers}
 
--- ---- the ten kinds with their codes
+-- ---- the kinds with their codes
 
 pub record Sort : Type 0 where
   pub kind : ℕ

@@ -9,7 +9,7 @@ use lib.ListN.{replicate}
 use Rattle.events.specs.declared.Event.{Event}
 use Rattle.tables.specs.Limits.{creditorCount, debtorCount, bankCount, stride}
 use Rattle.tables.specs.Ledger.{Ledger}
-use Rattle.tables.specs.Opening.{opened}
+use Rattle.opening.specs.Opening.{opened}
 use Rattle.tables.specs.declared.Mandate.{Mandate}
 use Rattle.tables.specs.declared.Standing.the-variants.{Closed}
 use Rattle.tables.specs.declared.Collection.{Collection}
@@ -18,7 +18,7 @@ use Rattle.tables.specs.declared.State.the-variants.{Rejected, Undone}
 use Rattle.tables.specs.declared.Undoing.the-variants.{Return, Refund, Reversal}
 use Rattle.model.specs.Lookups.{Known, mandateOf, collectionOf}
 use Rattle.model.specs.Lookups.Known.{unknown, known}
-use Rattle.tables.specs.Fitness.{fit}
+use Rattle.fitness.specs.Fitness.{fit}
 use Rattle.model.specs.Step.{query, queryNumber, run}
 use Rattle.witness.specs.Opening.{event, answers}
 

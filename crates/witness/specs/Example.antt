@@ -7,7 +7,7 @@ use Prim.Native.String.{String}
 use lib.Dec.{eqb}
 use lib.IntN.{ℤ, pos, negℤ}
 use Rattle.events.specs.declared.Event.{Event}
-use Rattle.tables.specs.Opening.{opening, opened}
+use Rattle.opening.specs.Opening.{opening, opened}
 use Rattle.model.specs.declared.QueryAnswer.the-variants.{Figure}
 use Rattle.model.specs.Step.{inQuery, query, run}
 use Rattle.witness.specs.Opening.{event, lent, answers}

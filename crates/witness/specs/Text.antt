@@ -5,11 +5,11 @@ use Prim.Native.Nat.{ℕ}
 use Prim.Native.Char.{code}
 use Prim.Native.String.{String, [] as noText, _∷_ as _then_}
 use Rattle.events.specs.declared.Event.{Event}
-use Rattle.events.specs.declared.line.LineAnswer.{LineAnswer}
-use Rattle.events.specs.declared.line.LineAnswer.the-variants.{Taken}
-use Rattle.events.specs.Line.{lineEnd, readLine}
+use Rattle.lines.specs.declared.line.LineAnswer.{LineAnswer}
+use Rattle.lines.specs.declared.line.LineAnswer.the-variants.{Taken}
+use Rattle.lines.specs.Line.{lineEnd, readLine}
 use Rattle.tables.specs.Ledger.{Ledger}
-use Rattle.report.specs.Run.{runAt, takeText, toldText, endText, toldEnd, toldPositions}
+use Rattle.run.specs.Run.{runAt, takeText, toldText, endText, toldEnd, toldPositions}
 
 -- a byte for each character, of those below 128
 abbrev pub bytesOf : String → List ℕ

@@ -1,11 +1,11 @@
 -- Laws of a position query, by the first test that fails. To cite: `queried-unfit`, `queried-outside`, `queried-figure`. Assumes nothing.
-use mathlib.Core.Path.{_≡_, sym, _∙_, ap}
+use mathlib.Core.Path.{_≡_, _∙_, ap}
 use mathlib.Core.Bool.{true, false}
 use Prim.Native.Nat.{ℕ}
 use lib.IntN.{ℤ}
 use Rattle.refusals.specs.declared.Refusal.the-variants.{UnfitMemory, BadField}
 use Rattle.tables.specs.Ledger.{Ledger}
-use Rattle.tables.specs.Fitness.{fit}
+use Rattle.fitness.specs.Fitness.{fit}
 use Rattle.model.specs.declared.QueryAnswer.{QueryAnswer}
 use Rattle.model.specs.declared.QueryAnswer.the-variants.{Figure, Refused}
 use Rattle.model.specs.Step.{inQuery, figureOf, query, queryNumber, answered}

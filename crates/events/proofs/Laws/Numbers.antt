@@ -1,67 +1,20 @@
--- The answers in the paper's numbers. To cite: `limit-number`, `reader-number`, `writer-number`, `checked-line-number`. Assumes nothing.
-use mathlib.Core.Path.{_≡_, refl, _∙_}
-use mathlib.Core.Bool.{Bool, true, false, cond, _&&_}
-use mathlib.Core.List.{List, [], _∷_}
-use Prim.Native.Nat.{ℕ}
-use lib.Dec.{eqb, leb}
-use lib.ListN.{length, getD}
+-- Refusals 3, 4 and 5 in the paper's numbers. To cite: `limit-number`; `by-limits`, the same by the three tests. Assumes nothing.
+use mathlib.Core.Path.{_≡_, refl}
+use mathlib.Core.Bool.{Bool, true, false}
+use mathlib.Core.List.{[], _∷_}
 use Rattle.common.specs.Checks.{check, judged}
 use Rattle.calendar.specs.Gregorian.{inRange}
-use Rattle.refusals.specs.declared.Refusal.the-variants.{BadLine, UnfitMemory, UnknownKind, BadDate, BadField}
+use Rattle.refusals.specs.declared.Refusal.the-variants.{UnknownKind, BadDate, BadField}
 use Rattle.events.specs.declared.Event.{Event}
-use Rattle.events.specs.declared.limits.Checked.{Checked}
 use Rattle.events.specs.declared.limits.Checked.the-variants.{Within, Refused}
-use Rattle.events.specs.declared.line.LineAnswer.{LineAnswer}
-use Rattle.events.specs.declared.line.LineAnswer.the-variants as lines
-use Rattle.events.specs.Limits.{within, kinds, fieldsFit, checks, checked, checkedNumber, limitNumber}
-use Rattle.events.specs.Line.{widths, eventOf, columns, lineLength, lineEnd, Fields, Values, Unreadable, readFields, answerOf, taken, readLine, checkedLine, writtenOf, writeAnswer, lineNumber, writeNumber, fieldsNumber, readerNumber, writerNumber}
+use Rattle.events.specs.Limits.{within, kinds, fieldsFit, checked, checkedNumber, limitNumber}
 
--- ---- 3, 4, 5
-
-by-tests : (kind date fields : Bool) → checkedNumber (judged (check kind (Refused UnknownKind) ∷ check date (Refused BadDate) ∷ check fields (Refused BadField) ∷ []) Within) ≡ judged (check kind 3 ∷ check date 4 ∷ check fields 5 ∷ []) 0
-by-tests false date fields = refl
-by-tests true false fields = refl
-by-tests true true false = refl
-by-tests true true true = refl
+pub by-limits : (kind date fields : Bool) → checkedNumber (judged (check kind (Refused UnknownKind) ∷ check date (Refused BadDate) ∷ check fields (Refused BadField) ∷ []) Within) ≡ judged (check kind 3 ∷ check date 4 ∷ check fields 5 ∷ []) 0
+by-limits false date fields = refl
+by-limits true false fields = refl
+by-limits true true false = refl
+by-limits true true true = refl
 
 pub limit-number : (e : Event) → checkedNumber (checked e) ≡ limitNumber e
 unfolding checked limitNumber
-limit-number e = by-tests (within kinds (e .kind)) (inRange (e .date)) (fieldsFit e)
-
--- ---- the reader
-
-answer-number : (e : Event) (c : Checked) → lineNumber (answerOf e c) ≡ checkedNumber c
-answer-number e Within = refl
-answer-number e (Refused r) = refl
-
-taken-number : (f : Fields) → lineNumber (taken f) ≡ fieldsNumber f
-taken-number Unreadable = refl
-taken-number (Values vs) = answer-number (eventOf vs) (checked (eventOf vs)) ∙ limit-number (eventOf vs)
-
-by-line : (b : Bool) (f : Fields) → lineNumber (cond b (taken f) (lines.Refused BadLine)) ≡ cond b (fieldsNumber f) 1
-by-line true f = taken-number f
-by-line false f = refl
-
-pub reader-number : (l : List ℕ) → lineNumber (readLine l) ≡ readerNumber l
-unfolding readLine readerNumber
-reader-number l = by-line (eqb (length l) lineLength && eqb (getD l columns 0) lineEnd) (readFields widths 0 l)
-
-pub checked-line-number : (a : LineAnswer) → checkedNumber (checkedLine a) ≡ lineNumber a
-checked-line-number (lines.Taken e) = refl
-checked-line-number (lines.Refused r) = refl
-
--- ---- the writer
-
-written : (c : Checked) → writeNumber (writtenOf c) ≡ checkedNumber c
-written Within = refl
-written (Refused r) = refl
-
-by-room : (b kind date fields : Bool) → checkedNumber (judged (check b (Refused UnfitMemory) ∷ check kind (Refused UnknownKind) ∷ check date (Refused BadDate) ∷ check fields (Refused BadField) ∷ []) Within) ≡ judged (check b 2 ∷ check kind 3 ∷ check date 4 ∷ check fields 5 ∷ []) 0
-by-room false kind date fields = refl
-by-room true kind date fields = by-tests kind date fields
-
-pub writer-number : (e : Event) (out : List ℕ) → writeNumber (writeAnswer e out) ≡ writerNumber e out
-unfolding writeAnswer writerNumber
-writer-number e out =
-    written (judged (check (leb lineLength (length out)) (Refused UnfitMemory) ∷ checks e) Within)
-    ∙ by-room (leb lineLength (length out)) (within kinds (e .kind)) (inRange (e .date)) (fieldsFit e)
+limit-number e = by-limits (within kinds (e .kind)) (inRange (e .date)) (fieldsFit e)

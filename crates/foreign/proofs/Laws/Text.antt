@@ -12,12 +12,12 @@ use Rattle.tables.specs.declared.Header.{Header}
 use Rattle.tables.specs.Ledger.{Ledger, ledger}
 use Rattle.model.specs.declared.Answer.{Answer}
 use Rattle.model.specs.declared.Answer.the-variants.{Accepted, Refused}
-use Rattle.model.specs.Step.{answerNumber}
-use Rattle.report.specs.Run.{Run}
-use Rattle.book.specs.declared.text.Piece.{Piece}
-use Rattle.book.specs.Text.{pieceFits, pieceRun, pieceTold, textAfter, Told, PieceTaken}
+use Rattle.model.specs.Step.{answerNumber, isAccepted}
+use Rattle.run.specs.Run.{Run}
+use Rattle.text.specs.declared.text.Piece.{Piece}
+use Rattle.text.specs.Text.{pieceFits, pieceRun, pieceTold, textAfter, Told, PieceTaken}
 use Rattle.foreign.specs.Cells.{cellsFit, headerIn, linesIn, filledIn, stateOf}
-use Rattle.foreign.specs.Text.{pieceState, pieceCents, isAccepted, CellsPut, AnswerPut, Ran, TextTaken}
+use Rattle.foreign.specs.Text.{pieceState, pieceCents, CellsPut, AnswerPut, Ran, TextTaken}
 use Rattle.foreign.proofs.Laws.Cells.{state-length, cents-length, sets-whole}
 
 -- ---- what a call leaves, in cells

@@ -10,13 +10,13 @@ use lib.Dec.{ltb}
 use lib.ListN.{length, take, drop, length-append}
 use lib.Seq.{take-add, take-append-seam}
 use Rattle.common.proofs.Tests.{and-halves}
-use Rattle.events.specs.Line.{pasted}
+use Rattle.digits.specs.Field.{pasted}
 use Rattle.tables.specs.Ledger.{Ledger}
 use Rattle.report.specs.Layout.{answerLength}
-use Rattle.report.specs.Run.{Run, runAt, takeText}
-use Rattle.report.proofs.Laws.Run.{piece-by-piece}
-use Rattle.book.specs.declared.text.Piece.{Piece}
-use Rattle.book.specs.Text.{pieceFits, pieceRun, pieceTold, PieceTaken}
+use Rattle.run.specs.Run.{Run, runAt, takeText}
+use Rattle.run.proofs.Laws.Run.{piece-by-piece}
+use Rattle.text.specs.declared.text.Piece.{Piece}
+use Rattle.text.specs.Text.{pieceFits, pieceRun, pieceTold, PieceTaken}
 use Rattle.ledger.specs.declared.Progress.{Progress}
 use Rattle.ledger.specs.Input.{Behind, Given, Turned, Taken}
 

@@ -13,28 +13,31 @@ use lib.IntN.{ℤ}
 use lib.ListN.{length, take, drop, replicate, length-replicate, length-append, length-drop}
 use lib.Seq.{take-append-seam, drop-length, drop-drop, length-take-le}
 use Rattle.common.proofs.Tests.{true-unless, and-true}
-use Rattle.events.specs.Line.{pasted}
-use Rattle.tables.specs.declared.OpenAnswer.{OpenAnswer}
-use Rattle.tables.specs.declared.OpenAnswer.the-variants.{Opened}
+use Rattle.digits.specs.Field.{pasted}
+use Rattle.opening.specs.declared.OpenAnswer.{OpenAnswer}
+use Rattle.opening.specs.declared.OpenAnswer.the-variants.{Opened}
 use Rattle.tables.specs.Limits.{stride}
 use Rattle.tables.specs.Rows.{rows}
 use Rattle.tables.specs.Ledger.{Ledger}
-use Rattle.tables.specs.Fitness.{fit, sizesFit}
-use Rattle.tables.specs.Opening.{Outcome, openNumber, outcome, opened, opening}
-use Rattle.tables.proofs.Laws.Opening.{opening-done, opened-done}
+use Rattle.fitness.specs.Fitness.{fit, sizesFit}
+use Rattle.opening.specs.Opening.{Outcome, openNumber, outcome, opened, opening}
+use Rattle.opening.proofs.Laws.Opening.{opening-done, opened-done}
 use Rattle.model.specs.declared.QueryAnswer.the-variants.{Figure}
 use Rattle.model.specs.Step.{inQuery, query, queryNumber}
 use Rattle.model.proofs.Laws.Answers.{query-answers, opening-answers}
-use Rattle.report.specs.declared.ending.Ending.{Ending}
-use Rattle.report.specs.declared.listing.Listing.{Listing}
+use Rattle.listing.specs.declared.ending.Ending.{Ending}
+use Rattle.listing.specs.declared.listing.Listing.{Listing}
 use Rattle.report.specs.Layout.{answerLength, answerLine}
-use Rattle.report.specs.Run.{Run, runAt, takeText, endsLine, endTold, toldEnd, endFits, EndTaken, toldPositions, listingRoom, listed, Listed}
-use Rattle.report.specs.Lines.{answeredLines}
-use Rattle.report.specs.Promises.{TextKept}
-use Rattle.report.proofs.Laws.Lines.{line-by-line}
-use Rattle.report.proofs.Laws.Layout.{length-answerLine, pasted-pasted}
-use Rattle.report.proofs.Laws.Listing.{length-toldPositions, listed-is}
-use Rattle.report.proofs.Laws.Program.{program-kept}
+use Rattle.listing.specs.Listing.{endFits, EndTaken, listingRoom, listed, Listed}
+use Rattle.run.specs.Run.{Run, runAt, takeText, endsLine, endTold, toldEnd, toldPositions}
+use Rattle.run.specs.Lines.{answeredLines}
+use Rattle.run.specs.Promises.{TextKept}
+use Rattle.run.proofs.Laws.Lines.{line-by-line}
+use Rattle.digits.proofs.Laws.Buffer.{pasted-pasted}
+use Rattle.report.proofs.Laws.Layout.{length-answerLine}
+use Rattle.run.proofs.Laws.Positions.{length-toldPositions}
+use Rattle.listing.proofs.Laws.Listing.{listed-is}
+use Rattle.run.proofs.Laws.Program.{program-kept}
 use Rattle.ledger.specs.Input.{Taken}
 use Rattle.ledger.specs.Program.{mandateRows, collectionRows, Begins, LastRoom, toldLast, Finished, Shown}
 use Rattle.ledger.proofs.Laws.Input.{front-length}

@@ -1,5 +1,8 @@
 -- `main` meets what it calls: the tables that it lends have their rows, and their opening was accepted. Assumes nothing.
 use Rattle.ledger.proofs.Laws.Program.{begins-opened, rows-lent}
+use Rattle.ledger.specs.Program.{mandateRows, collectionRows}
+use Rattle.tables.specs.Limits.{stride}
+use Prim.Native.Nat.{_*_}
 use borrow.Author.Needs.{needs}
 use Rattle.ledger.proofs.main.Statement.{statement}
 use Rattle.ledger.proofs.main.Tie as tie
@@ -54,7 +57,7 @@ slice-aggregate-run-6 c = search needs
 
 run-requires : tie.Need-run-requires
 run-requires c κs =
-    begins-opened _ _ _ (c .before .before .before .before .before .before .before .before .before .before .before .before .open-ledger .ensures) (c .before .before .before .before .before .before .enum-told .given .1) (rows-lent 1152) (rows-lent 2304)
+    begins-opened _ _ _ (c .before .before .before .before .before .before .before .before .before .before .before .before .open-ledger .ensures) (c .before .before .before .before .before .before .enum-told .given .1) (rows-lent (mandateRows * stride)) (rows-lent (collectionRows * stride))
 
 returns-2 : tie.Need-returns-2
 returns-2 c = search needs

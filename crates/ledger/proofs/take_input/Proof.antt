@@ -6,7 +6,7 @@ use native.Mathlib.Omega.{arith}
 use lib.ListN.{length}
 use borrow.Author.Needs.{needs}
 use Rattle.tables.specs.Ledger.{ledger}
-use Rattle.report.specs.Run.{runAt}
+use Rattle.run.specs.Run.{runAt}
 use Rattle.ledger.specs.Input.{Taken}
 use Rattle.ledger.proofs.Laws.Input.{turned-told, turns-left, taken-none, taken-on}
 use Rattle.ledger.proofs.take_input.Statement.{statement}

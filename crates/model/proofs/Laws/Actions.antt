@@ -4,10 +4,10 @@ use mathlib.Core.Bool.{cond}
 use lib.Dec.{eqb}
 use Rattle.events.specs.declared.Event.{Event}
 use Rattle.model.specs.Actions.{newMandate, presentation, actionOf}
-use Rattle.model.specs.Actions.Action.{AddCreditor, AddMandate, ChangeMandate, Collect, Treat}
-use Rattle.model.specs.Actions.Change.{NewBank, NewCreditor, Cancel}
-use Rattle.model.specs.Actions.Treatment.{Settle, Reject, Undo}
-use Rattle.model.specs.Actions.Way.{ByReturn, ByRefund, ByReversal}
+use Rattle.model.specs.declared.Action.the-variants.{AddCreditor, AddMandate, ChangeMandate, Collect, Treat}
+use Rattle.model.specs.declared.Change.the-variants.{NewBank, NewCreditor, Cancel}
+use Rattle.model.specs.declared.Treatment.the-variants.{Settle, Reject, Undo}
+use Rattle.model.specs.declared.Way.the-variants.{ByReturn, ByRefund, ByReversal}
 
 module _ (e : Event) where
   pub action-creditor : e .kind ≡ 1 → actionOf e ≡ AddCreditor (e .a) (e .b)

@@ -10,12 +10,12 @@ use Rattle.common.specs.Checks.{Check, check, judged}
 use Rattle.calendar.specs.Gregorian.{inRange}
 use Rattle.events.specs.declared.Event.{Event}
 use Rattle.events.specs.Limits.{within, kinds, fieldsFit, checked}
-use Rattle.events.specs.Promises.{among}
+use Rattle.common.specs.Tests.{among}
 use Rattle.events.proofs.Laws.Limits.{checked-kind, checked-date, checked-field, checked-within}
 use Rattle.tables.specs.Ledger.{Ledger}
-use Rattle.tables.specs.Fitness.{sizesFit, fit}
-use Rattle.tables.specs.Opening.{Outcome, opening}
-use Rattle.tables.proofs.Laws.Opening.{opening-done, opening-refused}
+use Rattle.fitness.specs.Fitness.{sizesFit, fit}
+use Rattle.opening.specs.Opening.{Outcome, opening}
+use Rattle.opening.proofs.Laws.Opening.{opening-done, opening-refused}
 use Rattle.model.specs.declared.Answer.{Answer}
 use Rattle.model.specs.declared.Answer.the-variants as answers
 use Rattle.model.specs.declared.QueryAnswer.the-variants as queries

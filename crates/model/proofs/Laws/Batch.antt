@@ -1,35 +1,44 @@
--- A list of events, one after the other, keeps the tables safe: what is tested once need not be tested again.
--- To cite: `after-safe`, `run-safe`, `run-more`, `opened-safe`. Assumes nothing.
+-- A list of events, one after the other, keeps the tables safe, so that what is tested once need not be tested again, and the sums zero.
+-- To cite: `after-safe`, `run-safe`, `run-balanced`, `run-more`, `opened-safe`, `opened-balanced`. Assumes nothing.
 use mathlib.Core.Path.{_≡_, refl}
-use mathlib.Core.Bool.{Bool, true, false}
+use mathlib.Core.Bool.{true}
 use mathlib.Core.List.{List, [], _∷_, _++_}
+use native.Mathlib.Omega.{arith}
 use Rattle.events.specs.declared.Event.{Event}
+use Rattle.positions.proofs.Laws.Positions.{total-zeros, position-zeros}
+use Rattle.tables.specs.Limits.{creditorCount, debtorCount, bankCount}
 use Rattle.tables.specs.Ledger.{Ledger}
-use Rattle.tables.specs.Fitness.{sizesFit}
-use Rattle.tables.specs.Opening.{opened}
+use Rattle.fitness.specs.Fitness.{sizesFit}
+use Rattle.opening.specs.Opening.{fresh, opened}
+use Rattle.opening.proofs.Laws.Opening.{opened-done, fresh-fit}
 use Rattle.model.specs.Actions.{actionOf}
-use Rattle.model.specs.Step.{isAccepted, answer, after, run}
-use Rattle.model.proofs.Laws.Sound.{sound-event}
-use Rattle.model.proofs.Laws.Invariant.{safe-kept}
+use Rattle.model.specs.Step.{after, run}
 use Rattle.model.specs.Bounds.{Safe}
-use Rattle.model.proofs.Laws.Theorem.{accepted-passed, after-accepted, after-refused, is-accepted, Past, opening-past}
-
-safe-case : (l : Ledger) (e : Event) (b : Bool) → isAccepted (answer l e) ≡ b → Safe l → Safe (after l e)
-safe-case l e true i s =
-    let a = is-accepted (answer l e) i in
-    let p = accepted-passed l e (s .fits) a in
-    let o = sound-event e (p .0) in
-    rw (after-accepted l e a) (safe-kept l (e .date) s (o .0) (actionOf e) (o .1) (p .1))
-safe-case l e false i s = rw (after-refused l e i) s
+use Rattle.model.proofs.Laws.Accepted.{after-cases}
+use Rattle.model.proofs.Laws.Bounds.{Balanced}
+use Rattle.model.proofs.Laws.Invariant.{safe-kept, balanced-kept}
 
 -- one event, whatever its answer
 pub after-safe : (l : Ledger) (e : Event) → Safe l → Safe (after l e)
-after-safe l e s = safe-case l e (isAccepted (answer l e)) refl s
+after-safe l e s =
+    after-cases (λ b x. Safe x) l e (λ a. safe-kept l (e .date) s (a .range) (actionOf e) (a .sound) (a .passed)) s
+
+-- what every event keeps, every list keeps
+run-keeps : (P : Ledger → Type 0) → ((l : Ledger) (e : Event) → P l → P (after l e)) → (es : List Event) (l : Ledger) → P l → P (run l es)
+unfolding run
+run-keeps P step [] l p = p
+run-keeps P step (e ∷ es) l p = run-keeps P step es (after l e) (step l e p)
 
 pub run-safe : (es : List Event) (l : Ledger) → Safe l → Safe (run l es)
-unfolding run
-run-safe [] l s = s
-run-safe (e ∷ es) l s = run-safe es (after l e) (after-safe l e s)
+run-safe = run-keeps Safe after-safe
+
+after-balanced : (l : Ledger) (e : Event) → Balanced l → Balanced (after l e)
+after-balanced l e b =
+    after-cases (λ s x. Balanced x) l e
+    (λ a. balanced-kept l (e .date) (a .fits) (a .range) b (actionOf e) (a .sound) (a .passed)) b
+
+pub run-balanced : (es : List Event) (l : Ledger) → Balanced l → Balanced (run l es)
+run-balanced = run-keeps Balanced after-balanced
 
 -- one event more
 pub run-more : (es : List Event) (l : Ledger) (e : Event) → run l (es ++ (e ∷ [])) ≡ after (run l es) e
@@ -39,5 +48,24 @@ run-more (x ∷ es) l e = run-more es (after l x) e
 
 -- an accepted opening starts it
 pub opened-safe : (t : Ledger) → sizesFit t ≡ true → Safe (opened t)
-unfolding Past
-opened-safe t z = opening-past t z .safe
+unfolding fresh
+opened-safe t z =
+    rw (opened-done t z)
+    (record {
+      fits = fresh-fit t z;
+      bounded =
+          record {
+            creditors = λ n. rw (position-zeros creditorCount n) (omega arith);
+            debtors = λ n. rw (position-zeros debtorCount n) (omega arith);
+            banks = λ n. rw (position-zeros bankCount n) (omega arith);
+            cents = 0;
+            paid = refl;
+            cents-le = omega arith;
+          };
+    })
+
+pub opened-balanced : (t : Ledger) → sizesFit t ≡ true → Balanced (opened t)
+unfolding fresh
+opened-balanced t z =
+    rw (opened-done t z)
+    (record { parties = rw (total-zeros creditorCount, total-zeros debtorCount); banks = total-zeros bankCount })

@@ -11,16 +11,16 @@ use Rattle.calendar.proofs.Laws.Gregorian.{range-facts}
 use Rattle.calendar.proofs.Laws.DayNumber.{dayNumber-mono-le}
 use Rattle.positions.specs.declared.Postings.{Postings}
 use Rattle.positions.specs.Positions.{Entry, position, posted, transferred, total}
-use Rattle.positions.specs.Postings.{settlement, reversed, refunded, partySum, bankSum}
+use Rattle.positions.specs.Postings.{settlement, reversed, refunded}
 use Rattle.positions.specs.Compensation.{compensation as compensationFor, amountLimit, daysLimit}
 use Rattle.positions.specs.Limits.{compensationLimit}
 use Rattle.positions.proofs.Laws.Positions.{size-posted, size-transferred}
-use Rattle.positions.proofs.Laws.Postings.{AtMost, settlement-size, reversed-size, refunded-size, settlement-parties, reversed-parties, refunded-parties, settlement-banks, reversed-banks, refunded-banks, parties-keep, banks-keep}
+use Rattle.positions.proofs.Laws.Postings.{partySum, bankSum, AtMost, settlement-size, reversed-size, refunded-size, settlement-parties, reversed-parties, refunded-parties, settlement-banks, reversed-banks, refunded-banks, parties-keep, banks-keep}
 use Rattle.positions.proofs.Laws.Limits.{compensation-bound}
 use Rattle.tables.specs.Ledger.{Ledger}
 use Rattle.tables.specs.declared.Collection.{Collection}
-use Rattle.model.specs.Actions.{Way}
-use Rattle.model.specs.Actions.Way.{ByReturn, ByRefund, ByReversal}
+use Rattle.model.specs.declared.Way.{Way}
+use Rattle.model.specs.declared.Way.the-variants.{ByReturn, ByRefund, ByReversal}
 use Rattle.model.specs.Deadlines.{lastDay, inTime, daysSince}
 use Rattle.model.specs.Bounds.{spent, Bounded}
 use Rattle.model.specs.Effects.{dated, keepCollection, withPostings, undone}

@@ -1,30 +1,31 @@
--- Laws of specs/Effects: what an effect is where the row of its number is known, and the facts of that row.
--- To cite: `MandateThere` with `mandate-there`, `CollectionThere` with `collection-there`, `effect-change`, `effect-collect`, `effect-treat`.
--- Assumes nothing.
+-- Laws of specs/Effects: what an effect is where the row of its number is known, the facts of that row, and what is known once it is written.
+-- To cite: `of-known`, `not-known`; `MandateThere` with `mandate-there`, `CollectionThere` with `collection-there` and `creditor-entry` to `cbank-entry`;
+-- `changed-number`, `presented-number`, `treated-number`; `effect-change`, `effect-collect`, `effect-treat`;
+-- `mandates-kept`, `collections-kept`. Assumes nothing.
 use mathlib.Core.Path.{_≡_, refl, sym, ap, _∙_}
-use mathlib.Core.Bool.{true, false}
-use mathlib.Core.List.{List}
-use Prim.Native.Nat.{ℕ, _*_, _<_}
-use native.Mathlib.Nat.{add-zero}
-use lib.ListN.{getD}
+use mathlib.Core.Bool.{Bool, true, false, cond}
+use Prim.Native.Nat.{ℕ, _<_}
+use lib.Dec.{eqb}
 use Rattle.common.proofs.Tests.{never}
-use Rattle.tables.specs.Limits.{stride}
+use Rattle.positions.specs.Positions.{Entry}
 use Rattle.tables.specs.Ledger.{Ledger}
-use Rattle.tables.specs.Lookup.{lookup, numberAt}
-use Rattle.tables.specs.Records.{mandateOf as mandateIn, collectionOf as collectionIn}
+use Rattle.tables.specs.Lookup.{lookup}
 use Rattle.tables.specs.Rows.{rows, mandateAt, collectionAt}
-use Rattle.tables.specs.Fitness.{fit}
+use Rattle.fitness.specs.Fitness.{fit}
 use Rattle.tables.specs.declared.Found.the-variants.{At}
 use Rattle.tables.specs.declared.Mandate.{Mandate}
 use Rattle.tables.specs.declared.Collection.{Collection}
-use Rattle.tables.proofs.Laws.Lookup.{lookup-at}
-use Rattle.tables.proofs.Laws.Fitness.{MandateFit, CollectionFit, fit-mandate, fit-collection}
-use Rattle.model.specs.Actions.{Change, Presentation, Treatment}
-use Rattle.model.specs.Actions.Action.{ChangeMandate, Collect, Treat}
-use Rattle.model.specs.Lookups.{Known, isKnown, mandateOf, collectionOf}
+use Rattle.tables.proofs.Laws.Lookup.{lookup-at, mandateAt-number, collectionAt-number}
+use Rattle.fitness.proofs.Laws.Fitness.{Sizes, MandateFit, CollectionFit, fit-mandate, fit-collection}
+use Rattle.model.specs.declared.Change.{Change}
+use Rattle.model.specs.declared.Presentation.{Presentation}
+use Rattle.model.specs.declared.Treatment.{Treatment}
+use Rattle.model.specs.declared.Action.the-variants.{ChangeMandate, Collect, Treat}
+use Rattle.model.specs.declared.Change.the-variants.{NewBank, NewCreditor, Cancel}
+use Rattle.model.specs.Lookups.{Known, isKnown, ofKnown, mandateOf, collectionOf}
 use Rattle.model.specs.Lookups.Known.{unknown, known}
 use Rattle.model.specs.Effects.{dated, keepMandate, keepCollection, addCollection, changed, presentedOn, newCollection, treated, postTreated, effect}
-use Rattle.model.proofs.Laws.Views.{mandate-row, collection-row}
+use Rattle.model.proofs.Laws.Views.{mandate-row, collection-row, mandateOf-keep, collectionOf-keep}
 
 -- ---- what is known
 
@@ -40,15 +41,9 @@ pub not-known : {A : Type 0} (x : Known A) → isKnown x ≡ false → x ≡ unk
 not-known unknown e = refl
 not-known (known a) e = absurd (never refl e)
 
--- ---- the row's number
-
-number-of-mandate : (cells : List ℕ) (row : ℕ) → mandateAt cells row .number ≡ numberAt cells row
-unfolding mandateAt mandateIn
-number-of-mandate cells row = ap (λ (n : ℕ). getD cells n 0) (add-zero (row * stride))
-
-number-of-collection : (cells : List ℕ) (row : ℕ) → collectionAt cells row .number ≡ numberAt cells row
-unfolding collectionAt collectionIn
-number-of-collection cells row = ap (λ (n : ℕ). getD cells n 0) (add-zero (row * stride))
+-- the test of what is known
+pub of-known : {A : Type 0} {x : Known A} {a : A} (f : A → Bool) → x ≡ known a → ofKnown x f ≡ true → f a ≡ true
+of-known {x = x} f e h = rw e at h
 
 -- ---- the mandate and the collection under a number, with their row and their limits
 
@@ -77,7 +72,7 @@ mandate-there l n f e =
       lent-row = h .lent-row;
       number =
           ap (λ (m : Mandate). m .number) (h .is)
-          ∙ number-of-mandate (l .mandates) (h .row)
+          ∙ mandateAt-number (l .mandates) (h .row)
           ∙ lookup-at (l .mandates) (l .mandatesUsed) n (h .row) (h .found) .number-row;
       fits = rw (h .is) (fit-mandate l f (h .row) (h .used-row));
     }
@@ -107,10 +102,48 @@ collection-there l n f e =
       lent-row = h .lent-row;
       number =
           ap (λ (c : Collection). c .number) (h .is)
-          ∙ number-of-collection (l .collections) (h .row)
+          ∙ collectionAt-number (l .collections) (h .row)
           ∙ lookup-at (l .collections) (l .collectionsUsed) n (h .row) (h .found) .number-row;
       fits = rw (h .is) (fit-collection l f (h .row) (h .used-row));
     }
+
+-- the parties and banks that a collection keeps have their entries
+module _ (l : Ledger) (z : Sizes l) (n : ℕ) (h : CollectionThere l n) where
+  pub creditor-entry : Entry (l .creditorPositions) (h .collection .creditor)
+  creditor-entry =
+      let w = h .fits .creditor-fit in
+      record { low = w .from; high = rw (z .creditor-positions) (w .to) }
+
+  pub debtor-entry : Entry (l .debtorPositions) (h .collection .debtor)
+  debtor-entry =
+      let w = h .fits .debtor-fit in
+      record { low = w .from; high = rw (z .debtor-positions) (w .to) }
+
+  pub dbank-entry : Entry (l .bankPositions) (h .collection .dbank)
+  dbank-entry =
+      let w = h .fits .dbank-fit in
+      record { low = w .from; high = rw (z .bank-positions) (w .to) }
+
+  pub cbank-entry : Entry (l .bankPositions) (h .collection .cbank)
+  cbank-entry =
+      let w = h .fits .cbank-fit in
+      record { low = w .from; high = rw (z .bank-positions) (w .to) }
+
+-- ---- a mandate and a collection keep their numbers
+
+pub changed-number : (c : Change) (m : Mandate) → changed c m .number ≡ m .number
+unfolding changed
+changed-number (NewBank b) m = refl
+changed-number (NewCreditor a) m = refl
+changed-number Cancel m = refl
+
+pub presented-number : (p : Presentation) (m : Mandate) → presentedOn p m .number ≡ m .number
+unfolding presentedOn
+presented-number p m = refl
+
+pub treated-number : (t : Treatment) (date : ℕ) (k : Collection) → treated t date k .number ≡ k .number
+unfolding treated
+treated-number t date k = refl
 
 -- ---- the effect, with the row known
 
@@ -126,3 +159,20 @@ module _ (l : Ledger) (date : ℕ) where
   pub effect-treat : (n : ℕ) (t : Treatment) (h : CollectionThere l n) → effect l date (Treat n t) ≡ postTreated (keepCollection (dated l date) (h .row) (treated t date (h .collection))) t date (h .collection)
   unfolding effect
   effect-treat n t h = rw (h .found, h .at-row)
+
+-- ---- what is known under each number after a mandate or a collection is written to its row
+
+module _ (l : Ledger) (date : ℕ) where
+  pub mandates-kept : (n : ℕ) (h : MandateThere l n) (m : Mandate) → m .number ≡ n → (k : ℕ) → mandateOf (keepMandate (dated l date) (h .row) m) k ≡ cond (eqb k n) (known m) (mandateOf l k)
+  unfolding mandateOf
+  mandates-kept n h m e k =
+      let f = ap (λ (i : ℕ). lookup (l .mandates) (l .mandatesUsed) i) e ∙ h .found in
+      mandateOf-keep (dated l date) (h .row) m (h .lent-row) f k
+      ∙ ap (λ (i : ℕ). cond (eqb k i) (known m) (mandateOf l k)) e
+
+  pub collections-kept : (n : ℕ) (h : CollectionThere l n) (c : Collection) → c .number ≡ n → (k : ℕ) → collectionOf (keepCollection (dated l date) (h .row) c) k ≡ cond (eqb k n) (known c) (collectionOf l k)
+  unfolding collectionOf
+  collections-kept n h c e k =
+      let f = ap (λ (i : ℕ). lookup (l .collections) (l .collectionsUsed) i) e ∙ h .found in
+      collectionOf-keep (dated l date) (h .row) c (h .lent-row) f k
+      ∙ ap (λ (i : ℕ). cond (eqb k i) (known c) (collectionOf l k)) e

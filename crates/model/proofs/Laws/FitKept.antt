@@ -4,40 +4,41 @@ use mathlib.Core.Path.{_≡_, refl, ap, _∙_}
 use mathlib.Core.Bool.{Bool, true, false, _&&_, _||_}
 use mathlib.Core.Logic.{_≢_}
 use mathlib.Core.List.{List}
-use Prim.Native.Nat.{ℕ, suc, _+_, _-_, _≤_, _<_}
+use Prim.Native.Nat.{ℕ, suc, _-_, _≤_, _<_}
 use native.Mathlib.Omega.{arith}
 use lib.Dec.{eqb, leb}
 use lib.IntN.{ℤ, pos, natAbs, _+ℤ_}
 use lib.ListN.{getD, set, length-set}
 use borrow.Author.Tests.{le-leb}
 use Rattle.calendar.specs.Gregorian.{inRange}
-use Rattle.calendar.proofs.Laws.Gregorian.{range-facts}
-use Rattle.calendar.proofs.Laws.BusinessDates.{firstBusinessDay-is, kept-in-range}
 use Rattle.positions.specs.Positions.{position, posted}
 use Rattle.positions.proofs.Laws.Positions.{length-posted, posted-index, position-index, position-posted-same}
 use Rattle.positions.proofs.Laws.Limits.{moves-within-limit}
 use Rattle.positions.specs.declared.Postings.{Postings}
-use Rattle.positions.specs.Positions.{Entry}
-use Rattle.tables.specs.Limits.{stride, bankCount, positionLimit, mandateRowLimit, collectionRowLimit}
+use Rattle.tables.specs.Limits.{stride, creditorCount, bankCount, positionLimit, mandateRowLimit, collectionRowLimit}
 use Rattle.tables.specs.Ledger.{Ledger, bankOf, added}
 use Rattle.tables.specs.Records.{mandateCells, collectionCells, stateTag, stateDay}
 use Rattle.tables.specs.Rows.{rows, putRow}
-use Rattle.tables.specs.Fitness.{noneOrDate, compensationFit, dayFit, rowsFit, mandateFit, collectionFit, creditorsFit, positionsFit, fit}
+use Rattle.fitness.specs.Fitness.{noneOrDate, compensationFit, dayFit, rowsFit, mandateFit, collectionFit, creditorsFit, positionsFit, fit}
 use Rattle.tables.specs.declared.Mandate.{Mandate}
 use Rattle.tables.specs.declared.Collection.{Collection}
+use Rattle.tables.specs.declared.Standing.{Standing}
 use Rattle.tables.proofs.Laws.Ledger.{added-facts, bankOf-at}
 use Rattle.tables.proofs.Laws.Rows.{length-put, rows-put}
-use Rattle.tables.proofs.Laws.Fitness.{Within, RowCount, MandateFit, CollectionFit, Fit, fit-facts, fit-made, position-made, compensation-made, rowsFit-implies, rowsFit-put-used, rowsFit-put-next, mandate-made, collection-made, mandateFit-added, collectionFit-added, collectionFit-later, creditorsFit-added, creditorsFit-bank, creditorsFit-posted, positionsFit-made, day-made}
-use Rattle.model.specs.Actions.{Change, Presentation, Treatment}
-use Rattle.model.specs.Actions.Action.{AddCreditor, AddMandate, ChangeMandate, Collect}
-use Rattle.model.specs.Actions.Change.{NewBank, NewCreditor, Cancel}
-use Rattle.model.specs.Actions.Treatment.{Settle, Reject, Undo}
-use Rattle.model.specs.Actions.Way.{ByReturn, ByRefund, ByReversal}
+use Rattle.fitness.proofs.Laws.Fitness.{Within, RowCount, MandateFit, CollectionFit, Fit, fit-facts, fit-made, position-made, compensation-made, rowsFit-implies, rowsFit-put-used, rowsFit-put-next, mandate-made, collection-made, mandateFit-added, collectionFit-added, collectionFit-later, creditorsFit-added, creditorsFit-bank, creditorsFit-posted, positionsFit-made, day-made}
+use Rattle.model.specs.declared.Change.{Change}
+use Rattle.model.specs.declared.Presentation.{Presentation}
+use Rattle.model.specs.declared.Treatment.{Treatment}
+use Rattle.model.specs.declared.Action.the-variants.{AddCreditor, AddMandate, ChangeMandate, Collect}
+use Rattle.model.specs.declared.Change.the-variants.{NewBank, NewCreditor, Cancel}
+use Rattle.model.specs.declared.Treatment.the-variants.{Settle, Reject, Undo}
+use Rattle.model.specs.declared.Way.the-variants.{ByReturn, ByRefund, ByReversal}
 use Rattle.model.specs.Checks.{changeNames}
 use Rattle.model.specs.Deadlines.{keptDue}
-use Rattle.model.specs.Effects.{dated, keepMandate, addCollection, keepCollection, withPostings, changed, presentedOn, newCollection, treated, stateAfter, effect}
+use Rattle.model.specs.Effects.{dated, keepMandate, addCollection, keepCollection, withPostings, remade, changed, presentedOn, newCollection, treated, stateAfter, effect}
 use Rattle.model.proofs.Laws.Sound.{SoundCreditor, SoundMandate, SoundChange, SoundPresentation}
-use Rattle.model.proofs.Laws.Effects.{MandateThere, CollectionThere, effect-change, effect-collect}
+use Rattle.model.proofs.Laws.Effects.{MandateThere, CollectionThere, creditor-entry, effect-change, effect-collect}
+use Rattle.model.proofs.Laws.Limits.{kept-found}
 use Rattle.model.specs.Bounds.{spent}
 use Rattle.model.proofs.Laws.Spent.{spent-limit}
 use Rattle.model.specs.Bounds.{Bounded}
@@ -50,11 +51,6 @@ or-right false e = e
 
 date-fits : (x : ℕ) → inRange x ≡ true → noneOrDate x ≡ true
 date-fits x e = or-right (eqb x 0) e
-
--- the kept due of a date in range is one
-pub kept-range : (x : ℕ) → inRange x ≡ true → inRange (keptDue x) ≡ true
-unfolding keptDue
-kept-range x r = rw (firstBusinessDay-is x (range-facts x r .is-date)) (kept-in-range x r)
 
 -- ---- sizes
 
@@ -191,41 +187,27 @@ module _ (l : Ledger) (f : fit l ≡ true) (date : ℕ) (range : inRange date �
 
   -- ---- events 3 and 4
 
-  changed-fits : (c : Change) (m : Mandate) → SoundChange c → changeNames l c ≡ true → MandateFit (l .creditors) m → MandateFit (l .creditors) (changed c m)
-  unfolding changed
-  changed-fits (NewBank b) m s a h =
+  -- a fit mandate with another creditor, debtor bank, standing, mark or last presented
+  remade-fits : (m : Mandate) (creditor bank : ℕ) (standing : Standing) (first : Bool) (presented : ℕ)
+      → Within 1 creditorCount creditor → added (l .creditors) creditor ≡ true → Within 1 bankCount bank → noneOrDate presented ≡ true
+      → MandateFit (l .creditors) m → MandateFit (l .creditors) (remade m creditor bank standing first presented)
+  remade-fits m creditor bank standing first presented c a b p h =
       record {
         number-fit = h .number-fit;
-        creditor-fit = h .creditor-fit;
-        creditor-added = h .creditor-added;
-        debtor-fit = h .debtor-fit;
-        bank-fit = s;
-        signed-date = h .signed-date;
-        code-fit = h .code-fit;
-        presented-date = h .presented-date;
-      }
-  changed-fits (NewCreditor c) m s a h =
-      record {
-        number-fit = h .number-fit;
-        creditor-fit = s;
+        creditor-fit = c;
         creditor-added = a;
         debtor-fit = h .debtor-fit;
-        bank-fit = h .bank-fit;
+        bank-fit = b;
         signed-date = h .signed-date;
         code-fit = h .code-fit;
-        presented-date = h .presented-date;
+        presented-date = p;
       }
-  changed-fits Cancel m s a h =
-      record {
-        number-fit = h .number-fit;
-        creditor-fit = h .creditor-fit;
-        creditor-added = h .creditor-added;
-        debtor-fit = h .debtor-fit;
-        bank-fit = h .bank-fit;
-        signed-date = h .signed-date;
-        code-fit = h .code-fit;
-        presented-date = h .presented-date;
-      }
+
+  changed-fits : (c : Change) (m : Mandate) → SoundChange c → changeNames l c ≡ true → MandateFit (l .creditors) m → MandateFit (l .creditors) (changed c m)
+  unfolding changed
+  changed-fits (NewBank b) m s a h = remade-fits m _ b _ _ _ (h .creditor-fit) (h .creditor-added) s (h .presented-date) h
+  changed-fits (NewCreditor c) m s a h = remade-fits m c _ _ _ _ s a (h .bank-fit) (h .presented-date) h
+  changed-fits Cancel m s a h = remade-fits m _ _ _ _ _ (h .creditor-fit) (h .creditor-added) (h .bank-fit) (h .presented-date) h
 
   pub fit-change : (n : ℕ) (c : Change) (t : MandateThere l n) → SoundChange c → changeNames l c ≡ true → fit (effect l date (ChangeMandate n c)) ≡ true
   fit-change n c t s a =
@@ -238,16 +220,7 @@ module _ (l : Ledger) (f : fit l ≡ true) (date : ℕ) (range : inRange date �
   presented-fits : (p : Presentation) (m : Mandate) → inRange (p .requested) ≡ true → MandateFit (l .creditors) m → MandateFit (l .creditors) (presentedOn p m)
   unfolding presentedOn
   presented-fits p m r h =
-      record {
-        number-fit = h .number-fit;
-        creditor-fit = h .creditor-fit;
-        creditor-added = h .creditor-added;
-        debtor-fit = h .debtor-fit;
-        bank-fit = h .bank-fit;
-        signed-date = h .signed-date;
-        code-fit = h .code-fit;
-        presented-date = date-fits (keptDue (p .requested)) (kept-range (p .requested) r);
-      }
+      remade-fits m _ _ _ _ _ (h .creditor-fit) (h .creditor-added) (h .bank-fit) (date-fits (keptDue (p .requested)) (kept-found (p .requested) r)) h
 
   -- the bank of a creditor that is added is one of the banks
   bank-fits : (c : ℕ) → added (l .creditors) c ≡ true → Within 1 bankCount (bankOf (l .creditors) c)
@@ -270,7 +243,7 @@ module _ (l : Ledger) (f : fit l ≡ true) (date : ℕ) (range : inRange date �
         cbank-fit = bank-fits (m .creditor) (h .creditor-added);
         dbank-fit = h .bank-fit;
         amount-fit = s .amount;
-        due-date = kept-range (p .requested) (s .requested);
+        due-date = kept-found (p .requested) (s .requested);
         state-fit = refl;
       }
 
@@ -387,7 +360,7 @@ module _ (l : Ledger) (f : fit l ≡ true) (date : ℕ) (range : inRange date �
           let w = t .fits .creditor-fit in
           let a = added-facts (l .creditors) c (t .fits .creditor-added) in
           let ne = a .1 in
-          let e : Entry (l .creditorPositions) c = record { low = w .from; high = rw (facts .sizes .creditor-positions) (w .to) } in
+          let e = creditor-entry l (facts .sizes) n t in
           let same = position-posted-same (l .creditorPositions) c (p .creditor) e in
           let z : natAbs (position (l .creditorPositions) c +ℤ p .creditor) ≤ positionLimit =
           rw same at (within-limit _ (b .creditors c))

@@ -1,7 +1,6 @@
 -- What an event, whatever its answer, writes to the rows of both tables: each used row stays where it is, with its number, and no
 -- unused row is written. To cite: `mandates-grown`, `collections-grown`, `unused-rows`. Assumes nothing.
 use mathlib.Core.Path.{_≡_, refl, _∙_}
-use mathlib.Core.Bool.{Bool, true, false}
 use mathlib.Core.List.{List}
 use Prim.Native.Nat.{ℕ, _+_}
 use native.Mathlib.Omega.{arith}
@@ -18,40 +17,16 @@ use Rattle.tables.specs.Rows.{putRow, mandateAt, collectionAt, putMandate, putC
 use Rattle.tables.specs.Lookup.{lookup, numberAt}
 use Rattle.tables.proofs.Laws.Lookup.{Grown, grown-same, grown-put-kept, grown-put-next, lookup-used, lookup-lent, mandateAt-number, collectionAt-number}
 use Rattle.tables.proofs.Laws.Rows.{length-put, cell-put-unused}
-use Rattle.model.specs.Actions.{Action, Change, Presentation, Treatment, actionOf}
-use Rattle.model.specs.Actions.Action.{AddCreditor, AddMandate, ChangeMandate, Collect, Treat}
-use Rattle.model.specs.Actions.Change.{NewBank, NewCreditor, Cancel}
-use Rattle.model.specs.Actions.Treatment.{Settle, Reject, Undo}
+use Rattle.model.specs.declared.Action.{Action}
+use Rattle.model.specs.declared.Treatment.{Treatment}
+use Rattle.model.specs.Actions.{actionOf}
+use Rattle.model.specs.declared.Action.the-variants.{AddCreditor, AddMandate, ChangeMandate, Collect, Treat}
+use Rattle.model.specs.declared.Treatment.the-variants.{Settle, Reject, Undo}
 use Rattle.model.specs.Effects.{dated, changed, presentedOn, newCollection, treated, postTreated, keepCollection, atRow, effect}
-use Rattle.model.specs.Step.{isAccepted, answer, after}
+use Rattle.model.specs.Step.{after}
 use Rattle.model.specs.Promises.{UnusedKept, UnusedRows}
-use Rattle.model.proofs.Laws.Theorem.{after-accepted, after-refused, is-accepted}
-
--- ---- a mandate and a collection keep their numbers
-
-changed-number : (c : Change) (m : Mandate) → changed c m .number ≡ m .number
-unfolding changed
-changed-number (NewBank b) m = refl
-changed-number (NewCreditor a) m = refl
-changed-number Cancel m = refl
-
-presented-number : (p : Presentation) (m : Mandate) → presentedOn p m .number ≡ m .number
-unfolding presentedOn
-presented-number p m = refl
-
-treated-number : (t : Treatment) (date : ℕ) (k : Collection) → treated t date k .number ≡ k .number
-unfolding treated
-treated-number t date k = refl
-
--- ---- an event, by its effect
-
--- what holds of a ledger, and of it after any effect, holds after an event
-after-cases : (P : Ledger → Type 0) (l : Ledger) (e : Event) → P l → P (effect l (e .date) (actionOf e)) → P (after l e)
-after-cases P l e same changed = by-answer (isAccepted (answer l e)) refl
-  where
-    by-answer : (b : Bool) → isAccepted (answer l e) ≡ b → P (after l e)
-    by-answer true i = rw (after-accepted l e (is-accepted (answer l e) i)) changed
-    by-answer false i = rw (after-refused l e i) same
+use Rattle.model.proofs.Laws.Effects.{changed-number, presented-number, treated-number}
+use Rattle.model.proofs.Laws.Accepted.{after-cases}
 
 -- ---- what is written to each table: nothing, a row that was found, or the next row
 
@@ -134,13 +109,13 @@ module _ (P : List ℕ → ℕ → List ℕ → ℕ → Type 0)
   module _ (l : Ledger) (e : Event) where
     mandates-after : P (l .mandates) (l .mandatesUsed) (after l e .mandates) (after l e .mandatesUsed)
     mandates-after =
-        after-cases (Mandates l (e .date)) l e (same (l .mandates) (l .mandatesUsed))
-        (effect-mandates l (e .date) (actionOf e))
+        after-cases (λ b x. Mandates l (e .date) x) l e (λ a. effect-mandates l (e .date) (actionOf e))
+        (same (l .mandates) (l .mandatesUsed))
 
     collections-after : P (l .collections) (l .collectionsUsed) (after l e .collections) (after l e .collectionsUsed)
     collections-after =
-        after-cases (Collections l (e .date)) l e (same (l .collections) (l .collectionsUsed))
-        (effect-collections l (e .date) (actionOf e))
+        after-cases (λ b x. Collections l (e .date) x) l e (λ a. effect-collections l (e .date) (actionOf e))
+        (same (l .collections) (l .collectionsUsed))
 
 -- ---- each used row stays where it is, with its number
 

@@ -1,5 +1,5 @@
 -- The limits of specs/Deadlines are dates, from every date in range. To cite: `passed-limit`, `at-most-limit` (a test that passed names its limit),
--- `last-day-found`, `last-day-return`, `last-day-refund`, `last-day-reversal`, `lapse-found`, `timing`. Assumes nothing.
+-- `last-day-found`, `last-day-return`, `last-day-refund`, `last-day-reversal`, `lapse-found`, `kept-found`, `timing`. Assumes nothing.
 use mathlib.Core.Path.{_≡_, refl, ap, _∙_}
 use mathlib.Core.Bool.{Bool, true, false, cond, not}
 use Prim.Native.Nat.{ℕ, _≤_}
@@ -22,9 +22,9 @@ use Rattle.calendar.proofs.Laws.Periods.{monthCount-is, periodEnd-steps}
 use Rattle.calendar.proofs.Laws.MonthCounts.{months-after}
 use Rattle.calendar.proofs.Laws.PeriodEnds.{longest, range-days, days-after, range-period-end}
 use Rattle.calendar.proofs.Laws.Promises.{kept-due}
-use Rattle.tables.specs.Fitness.{noneOrDate}
-use Rattle.model.specs.Actions.{Way}
-use Rattle.model.specs.Actions.Way.{ByReturn, ByRefund, ByReversal}
+use Rattle.fitness.specs.Fitness.{noneOrDate}
+use Rattle.model.specs.declared.Way.{Way}
+use Rattle.model.specs.declared.Way.the-variants.{ByReturn, ByRefund, ByReversal}
 use Rattle.model.specs.Deadlines.{core, periodOf, keptDue, timely, lastDay, lapseEnd}
 use Rattle.model.specs.Promises.{lastDayFrom, NotAfter, Timing}
 
@@ -118,6 +118,7 @@ lapse-found presented signed p s = months-found (cond (eqb presented 0) signed p
 
 -- ---- refusal 13
 
+-- the kept due of a date in range is one
 pub kept-found : (requested : ℕ) → inRange requested ≡ true → inRange (keptDue requested) ≡ true
 unfolding keptDue
 kept-found requested r = let k = kept-due requested r in rw (k .is) (k .in-range)

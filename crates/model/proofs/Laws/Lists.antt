@@ -1,41 +1,33 @@
--- Laws of lists of events: the journal and the counts after one more entry, and what holds of each entry by those before it.
--- To cite: `journal-more`, `times-more`, `AllPast` with `past-at`. Assumes nothing.
-use mathlib.Core.Path.{_≡_, refl, sym, subst}
-use mathlib.Core.Bool.{cond, _&&_}
-use mathlib.Core.List.{List, [], _∷_, _++_, append-assoc, append-nil}
-use Prim.Native.Nat.{ℕ, _+_}
+-- Lists of events: an entry of a history, and the ledger that it was given to. To cite: `each-entry`. Assumes nothing.
+use mathlib.Core.Path.{_≡_, subst}
+use mathlib.Core.List.{List, [], _∷_, _++_}
+use Prim.Native.Nat.{ℕ}
 use native.Mathlib.Omega.{arith}
-use lib.Dec.{eqb}
-use Rattle.events.specs.Promises.{among}
-use Rattle.model.specs.Step.{Entry}
-use Rattle.model.specs.Journal.{Journal, feed, journalFrom, journal, empty}
-use Rattle.model.specs.Promises.{times}
+use Rattle.events.specs.declared.Event.{Event}
+use Rattle.tables.specs.Ledger.{Ledger}
+use Rattle.model.specs.Step.{isAccepted, answer, after, run, Entry, entry, history}
 
--- ---- one entry more
+no-entry : {x : Entry} {xs : List Entry} → [] ≡ x ∷ xs → ⊥
+no-entry e = let z : _≡_ {A = ℕ} 0 1 = cc in omega arith
 
-journalFrom-more : (j : Journal) (h : List Entry) (x : Entry) → journalFrom j (h ++ (x ∷ [])) ≡ feed (journalFrom j h) x
-unfolding journalFrom
-journalFrom-more j [] x = refl
-journalFrom-more j (y ∷ h) x = journalFrom-more (feed j y) h x
+first-same : {x y : Entry} {xs ys : List Entry} → x ∷ xs ≡ y ∷ ys → x ≡ y
+first-same e = cc
 
-pub journal-more : (h : List Entry) (x : Entry) → journal (h ++ (x ∷ [])) ≡ feed (journal h) x
-journal-more h x = journalFrom-more empty h x
+rest-same : {x y : Entry} {xs ys : List Entry} → x ∷ xs ≡ y ∷ ys → xs ≡ ys
+rest-same e = cc
 
-pub times-more : (kinds : List ℕ) (c : ℕ) (h : List Entry) (x : Entry) → times kinds c (h ++ (x ∷ [])) ≡ times kinds c h + cond (x .accepted && (eqb (x .event .a) c && among kinds (x .event .kind))) 1 0
-unfolding times
-times-more kinds c [] x = omega arith
-times-more kinds c (y ∷ h) x = omega (arith, times-more kinds c h x)
-
--- ---- each entry, by those before it
-
-abbrev pub AllPast : (List Entry → Entry → Type 0) → List Entry → List Entry → Type 0
-AllPast P before [] = Unit {0}
-AllPast P before (x ∷ xs) = P before x × AllPast P (before ++ (x ∷ [])) xs
-
-past-from : (P : List Entry → Entry → Type 0) (pre later before : List Entry) (x : Entry) → AllPast P before (pre ++ (x ∷ later)) → P (before ++ pre) x
-past-from P [] later before x a = subst (λ (b : List Entry). P b x) (sym (append-nil before)) (a .0)
-past-from P (y ∷ pre) later before x a =
-    subst (λ (b : List Entry). P b x) (append-assoc before (y ∷ []) pre) (past-from P pre later (before ++ (y ∷ [])) x (a .1))
-
-pub past-at : (P : List Entry → Entry → Type 0) (xs pre later : List Entry) (x : Entry) → AllPast P [] xs → xs ≡ pre ++ (x ∷ later) → P pre x
-past-at P xs pre later x a e = past-from P pre later [] x (subst (AllPast P []) e a)
+-- what holds of any event that is given to the ledger after a list, with the history of that list, holds of each entry, with those before it
+pub each-entry :
+    (P : List Entry → Entry → Type 0) (l : Ledger) (es : List Event)
+    → ((earlier : List Event) (e : Event) → P (history l earlier) (entry e (isAccepted (answer (run l earlier) e))))
+    → (before later : List Entry) (x : Entry) → history l es ≡ before ++ (x ∷ later) → P before x
+unfolding run history
+each-entry P l [] f [] later x q = absurd (no-entry q)
+each-entry P l [] f (y ∷ before) later x q = absurd (no-entry q)
+each-entry P l (e ∷ es) f [] later x q = subst (P []) (first-same q) (f [] e)
+each-entry P l (e ∷ es) f (y ∷ before) later x q =
+    each-entry (λ b z. P (y ∷ b) z) (after l e) es
+    (λ earlier d.
+    subst (λ (z : Entry). P (z ∷ history (after l e) earlier) (entry d (isAccepted (answer (run (after l e) earlier) d)))) (first-same q)
+    (f (e ∷ earlier) d))
+    before later x (rest-same q)

@@ -1,5 +1,5 @@
 -- What an event within its limits asks for is within limits too, and what its acceptance says.
--- To cite: `sound-event` (from `checked`), `Passed` with `passed` (from `ruled`). Assumes nothing.
+-- To cite: `sound-event` (from `checked`), `passes-first`, `Passed` with `passed` (from `ruled`). Assumes nothing.
 use mathlib.Core.Path.{_≡_, refl}
 use mathlib.Core.Bool.{Bool, true, false, cond, _&&_}
 use mathlib.Core.Logic.{⊎-elim}
@@ -17,14 +17,19 @@ use Rattle.tables.specs.Limits.{creditorCount, debtorCount, bankCount, numberLi
 use Rattle.tables.specs.Ledger.{Ledger}
 use Rattle.tables.specs.declared.Mandate.{Mandate}
 use Rattle.tables.specs.declared.Standing.the-variants.{Live}
-use Rattle.tables.proofs.Laws.Fitness.{Within}
+use Rattle.fitness.proofs.Laws.Fitness.{Within}
 use Rattle.model.specs.declared.Answer.{Answer}
 use Rattle.model.specs.declared.Answer.the-variants.{Accepted, Refused}
-use Rattle.model.specs.Actions.{Action, Change, Presentation, Treatment, Way, newMandate, actionOf}
-use Rattle.model.specs.Actions.Action.{AddCreditor, AddMandate, ChangeMandate, Collect, Treat}
-use Rattle.model.specs.Actions.Change.{NewBank, NewCreditor, Cancel}
-use Rattle.model.specs.Actions.Treatment.{Settle, Reject, Undo}
-use Rattle.model.specs.Actions.Way.{ByReturn, ByRefund, ByReversal}
+use Rattle.model.specs.declared.Action.{Action}
+use Rattle.model.specs.declared.Change.{Change}
+use Rattle.model.specs.declared.Presentation.{Presentation}
+use Rattle.model.specs.declared.Treatment.{Treatment}
+use Rattle.model.specs.declared.Way.{Way}
+use Rattle.model.specs.Actions.{newMandate, actionOf}
+use Rattle.model.specs.declared.Action.the-variants.{AddCreditor, AddMandate, ChangeMandate, Collect, Treat}
+use Rattle.model.specs.declared.Change.the-variants.{NewBank, NewCreditor, Cancel}
+use Rattle.model.specs.declared.Treatment.the-variants.{Settle, Reject, Undo}
+use Rattle.model.specs.declared.Way.the-variants.{ByReturn, ByRefund, ByReversal}
 use Rattle.model.proofs.Laws.Actions.{action-creditor, action-mandate, action-amend, action-cancel, action-collect, action-settle, action-reject, action-return, action-refund, action-reversal}
 use Rattle.model.specs.Checks.{inOrder, onBusinessDay, isNew, isThere, hasRow, isLive, inSequence, onTime, notLapsed, inState, notBeforeDue, byLastDay, checks, ruled}
 
@@ -154,7 +159,7 @@ sound-event e h = let m = checked-facts e h in (m .date, sound-action e m)
 -- ---- what acceptance says: every test passed
 
 -- the checks of a list that refuse where they fail
-abbrev refuses : Answer → Bool
+abbrev pub refuses : Answer → Bool
 refuses Accepted = false
 refuses (Refused r) = true
 
@@ -168,7 +173,7 @@ testAt [] k = true
 testAt (c ∷ cs) zero = c .passes
 testAt (c ∷ cs) (suc k) = testAt cs k
 
-passes-first : (b : Bool) (f rest : Answer) → refuses f ≡ true → cond b rest f ≡ Accepted → (b ≡ true) × (rest ≡ Accepted)
+pub passes-first : (b : Bool) (f rest : Answer) → refuses f ≡ true → cond b rest f ≡ Accepted → (b ≡ true) × (rest ≡ Accepted)
 passes-first true f rest r e = (refl, e)
 passes-first false Accepted rest r e = absurd (never r refl)
 passes-first false (Refused x) rest r e = let z : _≡_ {A = ℕ} 0 1 = cc in absurd (omega arith)

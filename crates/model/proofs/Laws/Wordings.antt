@@ -18,36 +18,28 @@ use Rattle.positions.specs.declared.Postings.{Postings}
 use Rattle.events.specs.declared.Event.{Event}
 use Rattle.events.specs.declared.limits.Checked.the-variants.{Within}
 use Rattle.events.specs.Limits.{checked}
-use Rattle.events.specs.Promises.{among}
+use Rattle.common.specs.Tests.{among}
 use Rattle.events.proofs.Laws.Limits.{Limited, checked-facts, kind-cases, collect-facts}
-use Rattle.tables.specs.declared.Mandate.{Mandate}
 use Rattle.tables.specs.declared.Standing.the-variants.{Closed, Cancelled}
-use Rattle.model.specs.Actions.{Action, Change, Presentation, Treatment, newMandate, presentation, actionOf}
-use Rattle.model.specs.Actions.Action.{AddCreditor, AddMandate, ChangeMandate, Collect, Treat}
-use Rattle.model.specs.Actions.Change.{NewBank, NewCreditor, Cancel}
-use Rattle.model.specs.Actions.Treatment.{Settle, Reject, Undo}
-use Rattle.model.specs.Actions.Way.{ByReturn, ByRefund, ByReversal}
-use Rattle.model.specs.Deadlines.{dateIn, keptDue}
+use Rattle.model.specs.declared.Action.{Action}
+use Rattle.model.specs.declared.Change.{Change}
+use Rattle.model.specs.declared.Presentation.{Presentation}
+use Rattle.model.specs.declared.Treatment.{Treatment}
+use Rattle.model.specs.Actions.{newMandate, presentation, actionOf}
+use Rattle.model.specs.declared.Action.the-variants.{AddCreditor, AddMandate, ChangeMandate, Collect, Treat}
+use Rattle.model.specs.declared.Change.the-variants.{NewBank, NewCreditor, Cancel}
+use Rattle.model.specs.declared.Treatment.the-variants.{Settle, Reject, Undo}
+use Rattle.model.specs.declared.Way.the-variants.{ByReturn, ByRefund, ByReversal}
+use Rattle.model.specs.Deadlines.{dateFound, keptDue}
 use Rattle.model.specs.Effects.{closes, undone}
 use Rattle.model.specs.Lookups.{Known}
 use Rattle.model.specs.Lookups.Known.{unknown, known}
 use Rattle.model.specs.Journal.{Journal, NotedMandate, NotedCollection, withBank, withMandate, withCollection, adding, needing, remade, newNoted, amended, cancelled, dueOn, isLast, collectedOn, notedCollection, noteCollect, notedSettled, noteSettle, noteBack, noteRefund, paidOn, needingSettled, noteKind, note}
+use Rattle.model.specs.Noted.{notedOf}
 use Rattle.model.specs.Promises.{settles, ends, undoings}
 use Rattle.model.proofs.Laws.Actions.{action-creditor, action-mandate, action-amend, action-cancel, action-collect, action-settle, action-reject, action-return, action-refund, action-reversal}
 
 -- ---- by the step's rules
-
--- a mandate as the journal notes it
-unfoldable pub notedOf : Mandate → NotedMandate
-notedOf m = record {
-  creditor = m .creditor;
-  debtor = m .debtor;
-  bank = m .bank;
-  signed = m .signed;
-  code = m .code;
-  standing = m .standing;
-  presented = m .presented;
-}
 
 unfoldable pub changeOf : Change → NotedMandate → NotedMandate
 changeOf (NewBank b) m = remade m (m .creditor) b (m .standing) (m .presented)
@@ -100,7 +92,7 @@ needing-none : {A : Type 0} (x : Known A) (j : Journal) → j ≡ needing x j (�
 needing-none unknown j = refl
 needing-none (known a) j = refl
 
-due-same : (a : DateAnswer) → dueOn a ≡ dateIn a
+due-same : (a : DateAnswer) → dueOn a ≡ dateFound a
 due-same (Date x) = refl
 due-same NoDate = refl
 
@@ -279,7 +271,7 @@ module _ (sort : Sort) (c : ℕ) (e : Event) where
       ap named h ∙ ap (λ (b : Bool). eqb (e .a) c && b) (same sort) ∙ sym (ap (treats sort c) a)
 
 -- each sort at once
-every-sort : (P : Sort → Type 0) → P Ends → P Undos → P Settles → (s : Sort) → P s
+pub every-sort : (P : Sort → Type 0) → P Ends → P Undos → P Settles → (s : Sort) → P s
 every-sort P a b c Ends = a
 every-sort P a b c Undos = b
 every-sort P a b c Settles = c

@@ -5,8 +5,18 @@ use Prim.Native.Nat.{ℕ, _+_, _*_, _<_, _≤_}
 use native.Mathlib.Omega.{arith}
 use Rattle.positions.specs.Positions.{positionLimit}
 use Rattle.positions.specs.Compensation.{interest, halfUp, compensation, amountLimit, rateLimit, daysLimit}
-use Rattle.positions.specs.Limits.{rowLimit, compensationLimit, rowMove, refundDays, refundLimit}
+use Rattle.positions.specs.Limits.{rowLimit, compensationLimit, rowMove}
 use Rattle.positions.proofs.Laws.Compensation.{compensation-mono}
+
+-- ---- the days of a refund in time
+
+-- 13 months, 30 days and 4 business days are no more than 403, 30 and 20 days
+abbrev pub refundDays : ℕ
+refundDays = 453
+
+-- the largest compensation of a refund in time
+abbrev pub refundLimit : ℕ
+refundLimit = 125820749999
 
 -- ---- the largest compensations
 

@@ -8,9 +8,17 @@ use native.Mathlib.Omega.{arith}
 use lib.IntN.{ℤ, pos, negℤ, natAbs, _+ℤ_, +ℤ-assoc, +ℤ-comm, +ℤ-idr, +ℤ-invr, +ℤ-invl, negℤ-+ℤ, negℤ-negℤ}
 use Rattle.positions.specs.declared.Postings.{Postings}
 use Rattle.positions.specs.Positions.{Entry, posted, transferred, total}
-use Rattle.positions.specs.Postings.{settlement, opposite, reversed, refunded, partySum, bankSum}
+use Rattle.positions.specs.Postings.{settlement, opposite, reversed, refunded}
 use Rattle.positions.proofs.Laws.Integers.{swap-last, size-neg}
 use Rattle.positions.proofs.Laws.Positions.{entry-posted, total-posted, transferred-posted, posted-transferred}
+
+-- ---- the two sums of an event, both zero
+
+abbrev pub partySum : Postings → ℤ
+partySum p = p .debtor +ℤ p .creditor +ℤ p .compensation
+
+abbrev pub bankSum : Postings → ℤ
+bankSum p = p .dbank +ℤ p .cbank
 
 -- ---- settlement
 

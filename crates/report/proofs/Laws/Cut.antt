@@ -14,7 +14,7 @@ use lib.Seq.{length-take-le, getD-take, getD-drop}
 use Rattle.common.specs.Walk.{firstFrom}
 use Rattle.common.proofs.Tests.{never, true-or-false, false-unless}
 use Rattle.common.proofs.Walk.{firstFrom-hit, firstFrom-miss, firstFrom-end, cases-from}
-use Rattle.events.specs.Line.{lineEnd}
+use Rattle.lines.specs.Line.{lineEnd}
 use Rattle.report.specs.declared.cut.LineEnd.{LineEnd}
 use Rattle.report.specs.declared.cut.LineEnd.the-variants.{At, NoEnd}
 use Rattle.report.specs.Cut.{endsAt, endFrom, isNone, isAt}

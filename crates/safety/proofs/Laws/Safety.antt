@@ -20,8 +20,8 @@ use Rattle.positions.specs.Positions.{position, within, Within}
 use Rattle.positions.proofs.Laws.Integers.{within-size, size-within}
 use Rattle.tables.specs.Ledger.{Ledger}
 use Rattle.tables.specs.Rows.{rows}
-use Rattle.tables.specs.Fitness.{fit}
-use Rattle.tables.proofs.Laws.Fitness.{fit-facts, compensation-facts}
+use Rattle.fitness.specs.Fitness.{fit}
+use Rattle.fitness.proofs.Laws.Fitness.{fit-facts, compensation-facts}
 use Rattle.model.specs.Bounds.{sumRows, movedAt, spent}
 use Rattle.model.specs.Bounds.{Bounded}
 use Rattle.model.specs.Bounds.{Safe}

@@ -9,7 +9,7 @@ use borrow.Author.Needs.{needs}
 use borrow.Author.Tests.{not-true, not-false}
 use lib.IntN.{pos, negℤ, _-ℤ_}
 use Rattle.positions.proofs.Laws.Integers.{size-fits, bits-small, minus-small, minus-small-fits}
-use Rattle.tables.specs.Fitness.{fit}
+use Rattle.fitness.specs.Fitness.{fit}
 use Rattle.tables.specs.Ledger.{Ledger, ledger}
 use Rattle.model.specs.Bounds.{spent}
 use Rattle.safety.specs.Safety.{between}

@@ -1,19 +1,19 @@
 -- Laws of specs/Rows, over the width w, the table and the fields. Names: F-put-same and F-put-other read the row that was
--- written and another one. To cite: `rowAt-put-same`, `rowAt-put-other`, `rowAt-cell`, `length-put`, `rows-put`,
+-- written and another one. To cite: `rowAt-put-same`, `rowAt-put-other`, `rowAt-cell`, `rowAt-part`, `length-put`, `rows-put`,
 -- `put-nowhere`; of cells `cell-put-before`, `cell-put-after`, `cell-put-unused` (no cell of an unused row is written); for
 -- the two tables `mandateAt-put-same`, `mandateAt-put-other`, `collectionAt-put-same`, `collectionAt-put-other`.
 -- Assumes nothing.
 use mathlib.Core.Path.{_≡_, refl, sym, _∙_, ap}
 use mathlib.Core.List.{List, [], _∷_}
 use mathlib.Core.Logic.{_≢_, _⊎_, ⊎-elim}
-use Prim.Native.Nat.{ℕ, zero, suc, _+_, _*_, _/_, _≤_, _<_}
+use Prim.Native.Nat.{ℕ, zero, suc, _+_, _-_, _*_, _/_, _≤_, _<_}
 use native.Mathlib.Nat.{add-zero, suc-mul, mul-le-mul-right, le-div-iff-mul-le}
 use native.Mathlib.Numerals.{add-one}
 use native.Mathlib.Omega.{arith}
 use borrow.Author.Tests.{ltb-true, ltb-false, lt-ltb, le-ltb}
 use lib.Dec.{ltb}
-use lib.ListN.{length, getD, set, drop, length-set, drop-of-length-le}
-use lib.Seq.{sets, length-sets, getD-set-same, getD-set-other, drop-cons, ext-getD}
+use lib.ListN.{length, getD, set, take, drop, length-set, length-take, length-drop, drop-of-length-le}
+use lib.Seq.{sets, length-sets, getD-set-same, getD-set-other, getD-take, getD-drop, drop-cons, ext-getD}
 use Rattle.common.proofs.Tests.{true-or-false}
 use Rattle.tables.specs.declared.Mandate.{Mandate}
 use Rattle.tables.specs.declared.Collection.{Collection}
@@ -96,6 +96,23 @@ pub row-room : (w : ℕ) (cells : List ℕ) (row : ℕ) → 0 < w → row < rows
 row-room w cells row p h =
     let l : suc row * w ≤ length cells = le-div-iff-mul-le p .0 h in
     rw suc-mul at l
+
+-- a row as a part of the table
+pub rowAt-part :
+    (w : ℕ) (cells : List ℕ) (row : ℕ) → 0 < w → row < rowsOf w cells
+    → take (row * w + w - row * w) (drop (row * w) cells) ≡ rowAt w cells row
+rowAt-part w cells row p h =
+    let e : row * w + w - row * w ≡ w = omega arith in
+    let room = row-room w cells row p h in
+    let left = length-drop (row * w) cells in
+    rw e
+    (row-equal w (take w (drop (row * w) cells)) (rowAt w cells row)
+    (length-take w (drop (row * w) cells) ∙ omega arith)
+    (rowAt-length w cells row)
+    (λ k l.
+    getD-take w (drop (row * w) cells) k 0 l
+    ∙ getD-drop (row * w) cells k 0
+    ∙ sym (rowAt-cell w cells row k l)))
 
 -- ---- putRow
 

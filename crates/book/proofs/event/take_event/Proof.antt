@@ -1,7 +1,7 @@
--- `take_event` meets its contract: refusal 2, or what `take_fit` did.
--- Assumes nothing.
-use Rattle.book.proofs.Laws.Events.{taken-unfit}
-use borrow.Author.Tests.{not-true, not-false}
+use Rattle.tables.specs.Ledger.{ledger}
+use Rattle.tables.proofs.Laws.Lookup.{lookup-since-first}
+use Rattle.book.proofs.Laws.Events.{found-for, acted-taken, taken-unfit, taken-refused}
+use Rattle.common.proofs.Tests.{not-true, not-false}
 use mathlib.Core.Path.{sym, _∙_}
 use borrow.Author.Needs.{needs}
 use Rattle.book.proofs.event.take_event.Statement.{statement}
@@ -29,10 +29,25 @@ same-length-6 : tie.Need-same-length-6
 same-length-6 c = search needs
 
 returns : tie.Need-returns
-returns c = taken-unfit _ _ _ (sym (c .before .is-fit .ensures) ∙ not-true _ (c .if1 .taken))
+returns c = taken-unfit _ _ _ (sym ((c .before .is-fit) .ensures) ∙ not-true (c .if1 .taken))
 
-take-fit-requires : tie.Need-take-fit-requires
-take-fit-requires c κs = sym (c .before .before .before .before .before .before .before .is-fit .ensures) ∙ not-false _ (c .before .before .before .before .before .before .if1 .left)
+check-requires : tie.Need-check-requires
+check-requires c κs = search needs
+
+enum-known-r : tie.Need-enum-known-r
+enum-known-r c = search needs
+
+enum-told : tie.Need-enum-told
+enum-told c = search needs
+
+find-mandate-requires : tie.Need-find-mandate-requires
+find-mandate-requires c κs = search needs
+
+find-collection-requires : tie.Need-find-collection-requires
+find-collection-requires c κs = search needs
+
+act-requires : tie.Need-act-requires
+act-requires c κs = search needs
 
 same-length-7 : tie.Need-same-length-7
 same-length-7 c = search needs
@@ -53,7 +68,38 @@ same-length-12 : tie.Need-same-length-12
 same-length-12 c = search needs
 
 returns-2 : tie.Need-returns-2
-returns-2 c = search needs
+returns-2 c = taken-refused _ _ _ _ (sym ((c .before .before .before .before .before .is-fit) .ensures) ∙ not-false (c .before .before .before .before .if1 .left)) (sym ((c .before .before .before .check) .ensures .0) ∙ (c .before .r) .given .1)
+
+same-length-13 : tie.Need-same-length-13
+same-length-13 c = search needs
+
+same-length-14 : tie.Need-same-length-14
+same-length-14 c = search needs
+
+same-length-15 : tie.Need-same-length-15
+same-length-15 c = search needs
+
+same-length-16 : tie.Need-same-length-16
+same-length-16 c = search needs
+
+same-length-17 : tie.Need-same-length-17
+same-length-17 c = search needs
+
+same-length-18 : tie.Need-same-length-18
+same-length-18 c = search needs
+
+returns-3 : tie.Need-returns-3
+returns-3 c =
+    let a = c .before .before .before .before .before .before .before .before .before .before .before .before .before .before .before .before .before .before .before .before .before .before .before .before .before .before .before .before .before .before .before .before .before .before .args in
+    let l = ledger (a .header) (a .mandates .now) (a .collections .now) (a .creditors .now) (a .creditor-positions .now) (a .debtor-positions .now) (a .bank-positions .now) in
+    acted-taken l (a .e) _ _ _ _ (sym ((c .before .before .before .before .before .before .before .before .before .before .before .before .before .before .before .before .before .before .before .before .before .before .before .before .is-fit) .ensures) ∙ not-false (c .before .before .before .before .before .before .before .before .before .before .before .before .before .before .before .before .before .before .before .before .before .before .before .if1 .left))
+    (sym ((c .before .before .before .before .before .before .before .before .before .before .before .before .before .before .before .before .before .before .before .before .before .before .check) .ensures .0) ∙ (c .before .before .before .before .before .before .before .before .before .before .before .before .before .before .before .before .before .before .before .before .enum-told) .given .1)
+    (found-for (a .e) l _ _ 0 0
+    (lookup-since-first (a .mandates .now) (a .header .mandates) (a .e .mandate))
+    (lookup-since-first (a .collections .now) (a .header .collections) (a .e .a))
+    ((c .before .before .before .before .before .before .before .before .before .before .before .before .before .before .before .before .before .before .find-mandate) .ensures)
+    ((c .before .before .before .before .before .before .before .before .before .before .before .before .before .before .before .before .find-collection) .ensures))
+    ((c .before .before .before .before .before .before .before .before .before .act) .ensures)
 
 pub take-event-spec : {M : Type 1} → statement M
 take-event-spec =
@@ -67,11 +113,23 @@ take-event-spec =
     same-length-5
     same-length-6
     returns
-    take-fit-requires
+    check-requires
+    enum-known-r
+    enum-told
+    find-mandate-requires
+    find-collection-requires
+    act-requires
     same-length-7
     same-length-8
     same-length-9
     same-length-10
     same-length-11
     same-length-12
-    returns-2)
+    returns-2
+    same-length-13
+    same-length-14
+    same-length-15
+    same-length-16
+    same-length-17
+    same-length-18
+    returns-3)

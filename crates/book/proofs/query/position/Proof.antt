@@ -1,12 +1,11 @@
 -- `position` tests the lent memory, then the kind and number, and reads the figure: the laws of `query`.
 -- Assumes nothing.
 use mathlib.Core.Bool.{true}
-use mathlib.Core.Path.{_≡_, sym, _∙_, ap}
+use mathlib.Core.Path.{_≡_, sym, _∙_}
 use mir.Facts.{toZ-ofZ}
 use mir.Syntax.{w64}
 use Rattle.common.proofs.Tests.{not-true, not-false}
-use Rattle.model.specs.declared.QueryAnswer.the-variants.{Figure}
-use Rattle.tables.specs.Fitness.{fit}
+use Rattle.fitness.specs.Fitness.{fit}
 use Rattle.tables.specs.Ledger.{Ledger, ledger}
 use Rattle.book.proofs.Laws.Queries.{queried-unfit, queried-outside, queried-figure}
 use borrow.Author.Needs.{needs}

@@ -1,7 +1,7 @@
 -- `cut::ends_soundly` meets its contract: the text is too short, another byte stands there, or none ends a line before. Assumes nothing.
 use native.Mathlib.Omega.{arith}
 use mathlib.Core.Path.{_∙_}
-use Rattle.events.specs.Line.{columns}
+use Rattle.lines.specs.Line.{columns}
 use Rattle.report.proofs.Laws.Cut.{not-short, not-other, none-before-is}
 use borrow.Author.Needs.{needs}
 use Rattle.report.proofs.cut.ends_soundly.Statement.{statement}

@@ -3,7 +3,7 @@ use native.Mathlib.Omega.{arith}
 use mathlib.Core.Path.{_≡_, sym, _∙_}
 use mathlib.Core.Bool.{true}
 use Prim.Native.Nat.{_+_}
-use Rattle.events.specs.Line.{columns}
+use Rattle.lines.specs.Line.{columns}
 use Rattle.report.specs.declared.cut.LineEnd.the-variants.{At}
 use Rattle.report.specs.Cut.{endFrom}
 use Rattle.report.proofs.Laws.Cut.{isAt-true, endFrom-at}

@@ -3,7 +3,7 @@ use mathlib.Core.Path.{_≡_, refl, ap, sym, _∙_}
 use mathlib.Core.Bool.{Bool, true, false, _&&_}
 use lib.Dec.{leb}
 use Rattle.report.specs.Layout.{widestKind, lastNumber, positionFits, positionLine}
-use Rattle.events.specs.Line.{pasted}
+use Rattle.digits.specs.Field.{pasted}
 use Rattle.positions.specs.Positions.{positionLimit, within}
 use lib.IntN.{ℤ}
 use mir.Syntax.{w64}

@@ -3,7 +3,7 @@ use mathlib.Core.Path.{ap, _∙_}
 use lib.IntN.{natAbs}
 use lib.ListN.{length}
 use mir.Facts.{toZ-ofZ}
-use Rattle.report.specs.Layout.{signOf}
+use Rattle.digits.specs.Field.{signOf}
 use Rattle.report.proofs.Laws.Layout.{positionLine-written, length-position}
 use borrow.Author.Needs.{needs}
 use Rattle.report.proofs.layout.put_position.Statement.{statement}

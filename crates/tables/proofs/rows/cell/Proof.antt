@@ -1,4 +1,5 @@
 use lib.ListN.{length}
+use Rattle.tables.specs.Limits.{stride}
 use Prim.Native.Nat.{_+_, _*_, _≤_}
 use native.Mathlib.Omega.{arith}
 use mathlib.Core.Path.{sym}
@@ -28,7 +29,7 @@ returns-2 c = sym (List·getD-eq-default (c .before .before .args .cells .now) 0
 returns-3 : tie.Need-returns-3
 returns-3 c =
     let a = c .before .args in
-    let h : length (a .cells .now) ≤ a .row * 9 + a .k = omega (arith, c .if1 .left) in
+    let h : length (a .cells .now) ≤ a .row * stride + a .k = omega (arith, c .if1 .left) in
     sym (List·getD-eq-default (a .cells .now) 0 h)
 
 pub cell-spec : {M : Type 1} → statement M

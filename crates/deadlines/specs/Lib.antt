@@ -1,0 +1,1 @@
+-- The contracts of this crate cite the model's specs/Deadlines and nothing of their own.

@@ -1,0 +1,2 @@
+-- What the program `ledger` writes at the end of its input, in definitions.
+pub mod Listing  -- the calls for the end of the input and for the listing

@@ -1,0 +1,1 @@
+pub mod Laws  -- the laws of the opening, for this crate's proofs and its callers'
