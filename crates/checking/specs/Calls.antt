@@ -2,11 +2,14 @@
 -- accepted. Assumes nothing.
 use mathlib.Core.Path.{_≡_}
 use mathlib.Core.Bool.{Bool, true, false}
+use mathlib.Core.List.{List}
 use Prim.Native.Nat.{ℕ}
+use lib.Dec.{ltb}
 use Rattle.tables.specs.declared.Found.{Found}
 use Rattle.tables.specs.declared.Found.the-variants.{At, Nothing}
 use Rattle.tables.specs.declared.Header.{Header}
 use Rattle.tables.specs.Ledger.{Ledger}
+use Rattle.tables.specs.Lookup.{existing}
 use Rattle.model.specs.declared.Answer.{Answer}
 use Rattle.model.specs.Step.{afterAnswer}
 use Rattle.checking.specs.declared.Outcome.{Outcome}
@@ -16,6 +19,11 @@ use Rattle.checking.specs.declared.Outcome.{Outcome}
 abbrev pub isFound : Found → Bool
 isFound (At row) = true
 isFound Nothing = false
+
+-- it is one of the used rows that there are
+abbrev pub usedRow : List ℕ → ℕ → Found → Bool
+usedRow cells used (At row) = ltb row (existing cells used)
+usedRow cells used Nothing = false
 
 -- the row that was found; the first where none was
 abbrev pub rowIn : Found → ℕ

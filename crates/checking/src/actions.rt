@@ -65,6 +65,7 @@ pub fn action_of(e: Event) -> Action
         7 => Action::Treat(e.a, Treatment::Reject),
         8 => Action::Treat(e.a, Treatment::Undo(Way::ByReturn)),
         9 => Action::Treat(e.a, Treatment::Undo(Way::ByRefund(e.b, e.code))),
+        // 10; an event of any other kind is refused by 3 before this is asked, or is acted on as a reversal
         _ => Action::Treat(e.a, Treatment::Undo(Way::ByReversal)),
     }
 }

@@ -1,10 +1,10 @@
 // What the code for every event shares: what it asks for, the rows of what it names, and the checking order of document 01, refusals 6 to
-// 17: specs/Order. A new refusal is one field of `Tests` and one line of `first_failing`.
+// 17: specs/Order. A new refusal is one field of `Tests` and one line of `first_failing` and of its definition.
 ghost use mathlib.Core.Path.{_≡_};
 ghost use mathlib.Core.Bool.{cond};
 ghost use Rattle.model.specs.declared.Answer.the-variants.{Refused as Refuses};
 ghost use Rattle.checking.specs.Order.{noneFails, firstFailing};
-ghost use Rattle.checking.specs.Calls.{isFound, rowIn, datedHeader};
+ghost use Rattle.checking.specs.Calls.{isFound, usedRow, rowIn, datedHeader};
 
 pub mod actions;
 
@@ -12,6 +12,7 @@ use model::Answer;
 use refusals::Refusal;
 use tables::Found;
 use tables::Header;
+use tables::lookup::existing_of;
 
 // The header after an event, and the answer to it. The header stands first so that it lies where it is copied whole.
 pub struct Outcome {
@@ -100,6 +101,16 @@ pub fn is_found(found: Found) -> bool
 {
     match found {
         Found::At(_) => true,
+        Found::Nothing => false,
+    }
+}
+
+// Whether a row was found that is one of the used rows that there are.
+pub fn is_used(found: Found, cells: &[u64], used: usize) -> bool
+    ensures { λ r. ⌜ r ≡ usedRow (now (cells .entry)) used found ⌝ }
+{
+    match found {
+        Found::At(row) => row < existing_of(cells, used),
         Found::Nothing => false,
     }
 }

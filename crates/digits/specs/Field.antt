@@ -34,7 +34,7 @@ signedPadded (suc w) sign v =
     (signedPadded w sign (v / 10) ++ (lastDigit v ∷ []))
 
 -- a field of w columns: a number to its right edge, at least one digit, the sign directly before it and blanks before that; of a
--- number with more digits the last w
+-- number with more digits the last w, and no sign where the digits fill the field
 unfoldable pub signedField : ℕ → ℕ → ℕ → List ℕ
 signedField zero sign v = []
 signedField (suc w) sign v = signedPadded w sign (v / 10) ++ (lastDigit v ∷ [])

@@ -69,7 +69,7 @@ fn put_answer(p: Piece, state: &mut [u64], cents: &mut [i64]) -> u64
     }
 }
 
-// Takes a piece of input: book's `take_text`. 0, or 2 where nothing changes: cells of another count, or a text or a
+// Takes a piece of input: text's `take_text`. 0, or 2 where nothing changes: cells of another count, or a text or a
 // buffer that is too short.
 #[no_mangle]
 pub extern "C" fn kalanhav_take_text(

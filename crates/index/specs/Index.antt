@@ -1,7 +1,7 @@
 -- An index of the first rows of a table by number. Rows fall into slots by their numbers; the index has the first row of
 -- each slot, for each row the next one of its slot, and the rows that it covers. It stays true while rows are added and
 -- none changes its number: rows that it does not cover are walked.
--- What it is for: `IndexHolds`, proved in proofs/Laws/Index. Assumes nothing.
+-- What it is for: `IndexHolds`, proved in proofs/Laws/Following. Assumes nothing.
 use mathlib.Core.Path.{_≡_}
 use mathlib.Core.Bool.{Bool, cond}
 use mathlib.Core.List.{List, [], _∷_}

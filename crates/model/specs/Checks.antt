@@ -57,15 +57,15 @@ isNew l (Treat n t) = true
 
 -- ---- 9: what is named exists
 
-abbrev pub changeNames : Ledger → Change → Bool
-changeNames l (NewBank b) = true
-changeNames l (NewCreditor a) = added (l .creditors) a
-changeNames l Cancel = true
+abbrev pub changeNames : List ℕ → Change → Bool
+changeNames creditors (NewBank b) = true
+changeNames creditors (NewCreditor a) = added creditors a
+changeNames creditors Cancel = true
 
 abbrev pub isThere : Ledger → Action → Bool
 isThere l (AddCreditor a b) = true
 isThere l (AddMandate m) = added (l .creditors) (m .creditor)
-isThere l (ChangeMandate n c) = isKnown (mandateOf l n) && changeNames l c
+isThere l (ChangeMandate n c) = isKnown (mandateOf l n) && changeNames (l .creditors) c
 isThere l (Collect p) = isKnown (mandateOf l (p .mandate))
 isThere l (Treat n t) = isKnown (collectionOf l n)
 

@@ -22,7 +22,7 @@ use Rattle.tables.specs.declared.Undoing.{Undoing}
 use Rattle.tables.specs.declared.Undoing.the-variants.{Return, Refund, Reversal}
 use Rattle.tables.specs.Ledger.{Ledger, bankOf}
 use Rattle.tables.specs.Lookup.{lookup}
-pub use Rattle.tables.specs.Records.{remade, inState}
+pub use Rattle.tables.specs.Records.{remade, withState}
 use Rattle.tables.specs.Rows.{mandateAt, collectionAt, putMandate, putCollection}
 use Rattle.model.specs.declared.Action.{Action}
 use Rattle.model.specs.declared.Change.{Change}
@@ -154,7 +154,7 @@ stateAfter Reject date = Rejected
 stateAfter (Undo way) date = Undone date (undoingOf way)
 
 unfoldable pub treated : Treatment → ℕ → Collection → Collection
-treated t date k = inState k (stateAfter t date)
+treated t date k = withState k (stateAfter t date)
 
 -- what an undoing posts, with the calendar days since the settled day
 abbrev pub undone : Way → ℕ → ℕ → ℕ → Postings

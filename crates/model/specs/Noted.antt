@@ -32,8 +32,8 @@ notedKnown (known m) = known (notedOf m)
 -- ---- a collection, as its row holds it
 
 -- a row holds S while it is settled; its mandate and code it does not hold, and no bullet of the journal asks for them
-unfoldable pub heldOf : Collection → NotedCollection
-heldOf k = record {
+unfoldable pub rowNoted : Collection → NotedCollection
+rowNoted k = record {
   mandate = 0;
   code = 0;
   amount = k .amount;
@@ -44,11 +44,11 @@ heldOf k = record {
   settled = settledOn (k .state);
 }
 
-abbrev pub heldKnown : Known Collection → Known NotedCollection
-heldKnown unknown = unknown
-heldKnown (known k) = known (heldOf k)
+abbrev pub rowNotedKnown : Known Collection → Known NotedCollection
+rowNotedKnown unknown = unknown
+rowNotedKnown (known k) = known (rowNoted k)
 
--- a row and a note say the same of a collection: all that both hold
+-- a row and a note say the same of a collection: its parties, banks and amount, and S where the row is settled
 pub record SameCollection (k : Collection) (n : NotedCollection) : Type 0 where
   pub creditor : k .creditor ≡ n .creditor
   pub debtor : k .debtor ≡ n .debtor
@@ -69,7 +69,7 @@ abbrev pub started : Ledger → Journal
 started l = record {
   banks = bankOf (l .creditors);
   mandates = λ n. notedKnown (mandateOf l n);
-  collections = λ n. heldKnown (collectionOf l n);
+  collections = λ n. rowNotedKnown (collectionOf l n);
   creditorFigure = λ n. pos 0;
   debtorFigure = λ n. pos 0;
   bankFigure = λ n. pos 0;

@@ -1,10 +1,10 @@
 -- Events 1 to 5 by the rows that were found of what they name: refusals 6 to 14 that concern each, in checking order, and the ledger
 -- where it is accepted. That they are the model's where the rows are those of the numbers: proofs/Laws/Records. Assumes nothing.
-use mathlib.Core.Bool.{Bool, true, cond, not, _&&_}
+use mathlib.Core.Bool.{Bool, cond, not, _&&_}
 use mathlib.Core.List.{List, [], _∷_, _++_}
 use Prim.Native.Nat.{ℕ, _-_}
 use lib.Dec.{leb, ltb}
-use lib.ListN.{set}
+use lib.ListN.{length, set}
 use Rattle.common.specs.Checks.{Check, check, judged}
 use Rattle.refusals.specs.declared.Refusal.the-variants.{BeforeLatest, AlreadyExists, DoesNotExist, NoRowLeft, NotLive, WrongSequence, BadTiming, Lapsed}
 use Rattle.tables.specs.declared.Found.{Found}
@@ -16,13 +16,12 @@ use Rattle.tables.specs.Rows.{rows, mandateAt}
 use Rattle.model.specs.declared.Answer.{Answer}
 use Rattle.model.specs.declared.Answer.the-variants.{Accepted, Refused}
 use Rattle.model.specs.declared.Change.{Change}
-use Rattle.model.specs.declared.Change.the-variants.{NewBank, NewCreditor, Cancel}
 use Rattle.model.specs.declared.Presentation.{Presentation}
 use Rattle.model.specs.Deadlines.{keptDue, timely, lapsedFor}
-use Rattle.model.specs.Checks.{inOrder, standsLive, takes}
+use Rattle.model.specs.Checks.{inOrder, changeNames, standsLive, takes}
 use Rattle.model.specs.Effects.{dated, withCreditors, keepMandate, addMandate, addCollection, changed, closes, presentedOn, newCollection}
 use Rattle.checking.specs.declared.Outcome.{Outcome}
-use Rattle.checking.specs.Calls.{isFound, rowIn, Done}
+use Rattle.checking.specs.Calls.{isFound, usedRow, rowIn, Done}
 use Rattle.records.specs.declared.collects.CollectVerdict.{CollectVerdict}
 use Rattle.records.specs.declared.collects.CollectVerdict.the-variants.{Refuse, Go}
 
@@ -32,7 +31,7 @@ abbrev pub creditorChecks : Ledger → ℕ → ℕ → List (Check Answer)
 creditorChecks l date number =
     check (inOrder l date) (Refused BeforeLatest)
     ∷ check (not (added (l .creditors) number)) (Refused AlreadyExists)
-    ∷ check (leb 1 number) (Refused DoesNotExist)  -- there is no creditor 0
+    ∷ check (leb 1 number && leb number (length (l .creditors))) (Refused DoesNotExist)  -- there is such a creditor
     ∷ []
 
 abbrev pub creditorAnswer : Ledger → ℕ → ℕ → Answer
@@ -62,29 +61,26 @@ MandateAdded found l date m r l' = Done (mandateAnswer found l date m) l (addMan
 
 -- ---- events 3 and 4
 
--- the mandate in the row that was found
+-- the mandate in the row that was found, which is there where it is a used row
+abbrev pub mandateThere : Found → Ledger → Bool
+mandateThere found l = usedRow (l .mandates) (l .mandatesUsed) found
+
 abbrev pub mandateIn : Found → Ledger → Mandate
 mandateIn found l = mandateAt (l .mandates) (rowIn found)
 
--- the creditor that a change names, if any, is added
-abbrev pub namesAdded : List ℕ → Change → Bool
-namesAdded creditors (NewBank b) = true
-namesAdded creditors (NewCreditor a) = added creditors a
-namesAdded creditors Cancel = true
-
--- of the mandate m
-abbrev pub changeChecks : ℕ → ℕ → Change → Found → Mandate → List ℕ → List (Check Answer)
-changeChecks latest date c found m creditors =
+-- of the mandate m, which is there or not
+abbrev pub changeChecks : ℕ → ℕ → Change → Bool → Mandate → List ℕ → List (Check Answer)
+changeChecks latest date c there m creditors =
     check (leb latest date) (Refused BeforeLatest)
-    ∷ check (isFound found && namesAdded creditors c) (Refused DoesNotExist)
+    ∷ check (there && changeNames creditors c) (Refused DoesNotExist)
     ∷ check (standsLive (m .standing)) (Refused NotLive)
     ∷ []
 
-abbrev pub changeJudged : ℕ → ℕ → Change → Found → Mandate → List ℕ → Answer
-changeJudged latest date c found m creditors = judged (changeChecks latest date c found m creditors) Accepted
+abbrev pub changeJudged : ℕ → ℕ → Change → Bool → Mandate → List ℕ → Answer
+changeJudged latest date c there m creditors = judged (changeChecks latest date c there m creditors) Accepted
 
 abbrev pub changeAnswer : Found → Ledger → ℕ → Change → Answer
-changeAnswer found l date c = changeJudged (l .latest) date c found (mandateIn found l) (l .creditors)
+changeAnswer found l date c = changeJudged (l .latest) date c (mandateThere found l) (mandateIn found l) (l .creditors)
 
 abbrev pub changeEffect : Found → Ledger → ℕ → Change → Ledger
 changeEffect found l date c = keepMandate (dated l date) (rowIn found) (changed c (mandateIn found l))
@@ -98,12 +94,12 @@ MandateChanged found l date c r l' = Done (changeAnswer found l date c) l (chang
 abbrev pub standingAfter : ℕ → Standing → Standing
 standingAfter code standing = cond (closes code) Closed standing
 
--- of the mandate m; a row is left or not
-abbrev pub mandateTerms : ℕ → ℕ → Presentation → Found → Found → Bool → Mandate → List (Check Answer)
-mandateTerms latest date p mandate collection room m =
+-- of the mandate m, which is there or not; a row is left or not
+abbrev pub mandateTerms : ℕ → ℕ → Presentation → Bool → Found → Bool → Mandate → List (Check Answer)
+mandateTerms latest date p there collection room m =
     check (leb latest date) (Refused BeforeLatest)
     ∷ check (not (isFound collection)) (Refused AlreadyExists)
-    ∷ check (isFound mandate) (Refused DoesNotExist)
+    ∷ check there (Refused DoesNotExist)
     ∷ check room (Refused NoRowLeft)
     ∷ check (standsLive (m .standing)) (Refused NotLive)
     ∷ check (takes m (p .code)) (Refused WrongSequence)
@@ -115,11 +111,11 @@ dateTerms date p m =
     ∷ check (not (lapsedFor (keptDue (p .requested)) (m .presented) (m .signed))) (Refused Lapsed)
     ∷ []
 
-abbrev pub collectChecks : ℕ → ℕ → Presentation → Found → Found → Bool → Mandate → List (Check Answer)
-collectChecks latest date p mandate collection room m = mandateTerms latest date p mandate collection room m ++ dateTerms date p m
+abbrev pub collectChecks : ℕ → ℕ → Presentation → Bool → Found → Bool → Mandate → List (Check Answer)
+collectChecks latest date p there collection room m = mandateTerms latest date p there collection room m ++ dateTerms date p m
 
-abbrev pub collectJudged : ℕ → ℕ → Presentation → Found → Found → Bool → Mandate → Answer
-collectJudged latest date p mandate collection room m = judged (collectChecks latest date p mandate collection room m) Accepted
+abbrev pub collectJudged : ℕ → ℕ → Presentation → Bool → Found → Bool → Mandate → Answer
+collectJudged latest date p there collection room m = judged (collectChecks latest date p there collection room m) Accepted
 
 -- the verdict: refused, or the kept due
 abbrev pub verdictBy : Answer → ℕ → CollectVerdict
@@ -128,7 +124,7 @@ verdictBy (Refused r) due = Refuse r
 
 abbrev pub collectAnswer : Found → Found → Ledger → ℕ → Presentation → Answer
 collectAnswer mandate collection l date p =
-    collectJudged (l .latest) date p mandate collection (ltb (l .collectionsUsed) (rows (l .collections))) (mandateIn mandate l)
+    collectJudged (l .latest) date p (mandateThere mandate l) collection (ltb (l .collectionsUsed) (rows (l .collections))) (mandateIn mandate l)
 
 abbrev pub collectEffect : Found → Ledger → ℕ → Presentation → Ledger
 collectEffect found l date p =

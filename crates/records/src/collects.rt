@@ -14,6 +14,7 @@ use checking::Outcome;
 use checking::dated_header;
 use checking::first_failing;
 use checking::is_found;
+use checking::is_used;
 use checking::none_fails;
 use checking::row_in;
 use deadlines::collects::is_lapsed;
@@ -36,7 +37,7 @@ use tables::rows::put_mandate;
 use tables::rows::rows_of;
 
 // Whether a collect is accepted, and its kept due.
-pub enum CollectVerdict {
+enum CollectVerdict {
     Refuse(Refusal),
     Go(u64),
 }
@@ -54,23 +55,23 @@ fn takes_code(m: Mandate, code: u64) -> bool
     (code == 1) | (code == 2)
 }
 
-// Refusals 6 to 12 of a collect on the mandate m; a row is left for it or not.
-fn judge_mandate(
+// Refusals 6 to 12 of a collect on the mandate m, which is there or not; a row is left for it or not.
+fn judge_terms(
     latest: u64,
     date: u64,
     p: Presentation,
-    mandate: Found,
+    there: bool,
     collection: Found,
     room: bool,
     m: Mandate,
 ) -> Answer
-    ensures { λ r. ⌜ r ≡ judged (mandateTerms latest date p mandate collection room m) Accepted ⌝ }
+    ensures { λ r. ⌜ r ≡ judged (mandateTerms latest date p there collection room m) Accepted ⌝ }
 {
     let standing = m.standing;
     let mut tests = none_fails();
     tests.order = latest <= date;
     tests.new = !is_found(collection);
-    tests.there = is_found(mandate);
+    tests.there = there;
     tests.room = room;
     tests.live = is_live(standing);
     tests.sequence = takes_code(m, p.code);
@@ -104,14 +105,14 @@ fn judge_collect(
     latest: u64,
     date: u64,
     p: Presentation,
-    mandate: Found,
+    there: bool,
     collection: Found,
     room: bool,
     m: Mandate,
 ) -> CollectVerdict
-    ensures { λ r. ⌜ r ≡ verdictBy (collectJudged latest date p mandate collection room m) (keptDue (p .requested)) ⌝ }
+    ensures { λ r. ⌜ r ≡ verdictBy (collectJudged latest date p there collection room m) (keptDue (p .requested)) ⌝ }
 {
-    match judge_mandate(latest, date, p, mandate, collection, room, m) {
+    match judge_terms(latest, date, p, there, collection, room, m) {
         Answer::Refused(r) => CollectVerdict::Refuse(r),
         Answer::Accepted => judge_due(date, p, m),
     }
@@ -176,9 +177,10 @@ pub fn collect(
 {
     let used = header.collections;
     let room = used < rows_of(collections);
+    let there = is_used(mandate, mandates, header.mandates);
     let row = row_in(mandate);
     let m = mandate_at(mandates, row);
-    match judge_collect(header.latest, date, p, mandate, collection, room, m) {
+    match judge_collect(header.latest, date, p, there, collection, room, m) {
         CollectVerdict::Refuse(r) => Outcome {
             answer: Answer::Refused(r),
             header: header,

@@ -3,7 +3,7 @@ ghost use mathlib.Core.Path.{_≡_};
 ghost use mathlib.Core.List.{List};
 ghost use Prim.Native.Nat.{ℕ, _-_, _≤_};
 ghost use lib.IntN.{ℤ};
-ghost use lib.ListN.{set};
+ghost use lib.ListN.{length, set};
 ghost use Rattle.tables.specs.Ledger.{ledger};
 ghost use Rattle.records.specs.Records.{creditorAnswer, CreditorAdded};
 use checking::Outcome;
@@ -20,19 +20,16 @@ fn judge_creditor(header: Header, date: u64, number: u64, creditors: &[u64]) -> 
     let mut tests = none_fails();
     tests.order = header.latest <= date;
     tests.new = !is_added(creditors, number);
-    tests.there = 1 <= number;
+    tests.there = (1 <= number) & (number <= creditors.len() as u64);
     first_failing(tests)
 }
 
-// The bank of a creditor; a number past the table's end is not written.
+// The bank of a creditor of the table.
 fn put_bank(creditors: &mut [u64], number: u64, bank: u64)
-    requires { ⌜ 1 ≤ number ⌝ }
+    requires { ⌜ (1 ≤ number) × (number ≤ length (now creditors)) ⌝ }
     ensures { λ _. ⌜ now (creditors .exit) ≡ set (now (creditors .entry)) (number - 1) bank ⌝ }
 {
-    let i = (number - 1) as usize;
-    if i < creditors.len() {
-        creditors[i] = bank;
-    }
+    creditors[(number - 1) as usize] = bank;
 }
 
 // The creditor of a number gets its bank.

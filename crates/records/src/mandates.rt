@@ -4,13 +4,14 @@ ghost use mathlib.Core.List.{List};
 ghost use Prim.Native.Nat.{ℕ};
 ghost use lib.IntN.{ℤ};
 ghost use Rattle.tables.specs.Ledger.{ledger};
-ghost use Rattle.model.specs.Checks.{standsLive};
+ghost use Rattle.model.specs.Checks.{changeNames, standsLive};
 ghost use Rattle.model.specs.Effects.{changed};
-ghost use Rattle.records.specs.Records.{mandateAnswer, MandateAdded, namesAdded, changeJudged, MandateChanged};
+ghost use Rattle.records.specs.Records.{mandateAnswer, MandateAdded, changeJudged, MandateChanged};
 use checking::Outcome;
 use checking::dated_header;
 use checking::first_failing;
 use checking::is_found;
+use checking::is_used;
 use checking::none_fails;
 use checking::row_in;
 use model::Answer;
@@ -82,7 +83,7 @@ pub fn add_mandate(
 
 // Whether the creditor that a change names, if any, exists.
 fn names_added(change: Change, creditors: &[u64]) -> bool
-    ensures { λ r. ⌜ r ≡ namesAdded (now (creditors .entry)) change ⌝ }
+    ensures { λ r. ⌜ r ≡ changeNames (now (creditors .entry)) change ⌝ }
 {
     match change {
         Change::NewBank(_) => true,
@@ -95,16 +96,16 @@ fn judge_change(
     header: Header,
     date: u64,
     change: Change,
-    found: Found,
+    there: bool,
     m: Mandate,
     creditors: &[u64],
 ) -> Answer
-    ensures { λ r. ⌜ r ≡ changeJudged (header .latest) date change found m (now (creditors .entry)) ⌝ }
+    ensures { λ r. ⌜ r ≡ changeJudged (header .latest) date change there m (now (creditors .entry)) ⌝ }
 {
     let standing = m.standing;
     let mut tests = none_fails();
     tests.order = header.latest <= date;
-    tests.there = is_found(found) & names_added(change, creditors);
+    tests.there = there & names_added(change, creditors);
     tests.live = is_live(standing);
     first_failing(tests)
 }
@@ -147,9 +148,10 @@ pub fn change_mandate(
 ) -> Outcome
     ensures { λ r. ⌜ ((c : List ℕ) (cp dp bp : List ℤ) → MandateChanged found (ledger header (now (mandates .entry)) c (now (creditors .entry)) cp dp bp) date change r (ledger (r .header) (now (mandates .exit)) c (now (creditors .entry)) cp dp bp)) ⌝ }
 {
+    let there = is_used(found, mandates, header.mandates);
     let row = row_in(found);
     let m = mandate_at(mandates, row);
-    match judge_change(header, date, change, found, m, creditors) {
+    match judge_change(header, date, change, there, m, creditors) {
         Answer::Refused(r) => Outcome {
             answer: Answer::Refused(r),
             header: header,

@@ -1,6 +1,6 @@
 -- Document 01, "Records": a mandate and a collection as the cells of a row, and back; and with some fields anew. A new field
 -- is a column, a cell of `mandateCells`, and a line of `mandateOf` and `remade` (or of `collectionCells`, `collectionOf` and
--- `inState`); the stride must have room for it.
+-- `withState`); the stride must have room for it.
 -- To cite: proofs/Laws/Records. Assumes nothing.
 use mathlib.Core.Bool.{Bool, true, false, cond, not}
 use mathlib.Core.List.{List, [], _∷_, _++_}
@@ -139,8 +139,8 @@ collectionOf fields = record {
 }
 
 -- the collection in another state
-abbrev pub inState : Collection → State → Collection
-inState c state = record {
+abbrev pub withState : Collection → State → Collection
+withState c state = record {
   number = c .number;
   creditor = c .creditor;
   debtor = c .debtor;

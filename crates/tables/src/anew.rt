@@ -1,6 +1,6 @@
-// A record with some of its fields anew: specs/Records, `remade` and `inState`.
+// A record with some of its fields anew: specs/Records, `remade` and `withState`.
 ghost use mathlib.Core.Path.{_≡_};
-ghost use Rattle.tables.specs.Records.{remade, inState};
+ghost use Rattle.tables.specs.Records.{remade, withState};
 use crate::Collection;
 use crate::Mandate;
 use crate::Standing;
@@ -31,8 +31,8 @@ pub fn remade(
 }
 
 // A collection in another state.
-pub fn in_state(c: Collection, state: State) -> Collection
-    ensures { λ r. ⌜ r ≡ inState c state ⌝ }
+pub fn with_state(c: Collection, state: State) -> Collection
+    ensures { λ r. ⌜ r ≡ withState c state ⌝ }
 {
     Collection {
         number: c.number,

@@ -78,11 +78,11 @@ fn answer_number(answer: Answer) -> u64
     }
 }
 
-// A row from which a number may be looked for: by the index if that is known to be one, else the first row.
-fn start(known: bool, index: &[u16; INDEX], cells: &[u64], number: u64) -> usize
-    ensures { λ r. ⌜ ((used : ℕ) → (known ≡ true → Indexed (now (index .entry)) (now (cells .entry)) used) → MayStart (now (cells .entry)) used number r) ⌝ }
+// A row from which a number may be looked for: by the index where there is one, else the first row.
+fn start(indexed: bool, index: &[u16; INDEX], cells: &[u64], number: u64) -> usize
+    ensures { λ r. ⌜ ((used : ℕ) → (indexed ≡ true → Indexed (now (index .entry)) (now (cells .entry)) used) → MayStart (now (cells .entry)) used number r) ⌝ }
 {
-    if known {
+    if indexed {
         return first_row(index, cells, number);
     }
     0
@@ -149,8 +149,8 @@ fn take_sound(
             header: header,
         };
     }
-    let mandate_since = start(known, mandate_index, mandates, e.mandate);
-    let collection_since = start(known, collection_index, collections, e.a);
+    let mandate_since = start(known & (e.kind <= 5), mandate_index, mandates, e.mandate);
+    let collection_since = start(known & (5 <= e.kind), collection_index, collections, e.a);
     act(
         header,
         e,

@@ -34,17 +34,17 @@ use Rattle.model.specs.declared.Treatment.the-variants.{Settle, Reject, Undo}
 use Rattle.model.specs.Checks.{settledOn, dayTreated, stateFits, dueTreated, timeTreated}
 use Rattle.model.specs.Effects.{dated, keepCollection, withPostings, treated}
 use Rattle.checking.specs.declared.Outcome.{Outcome}
-use Rattle.checking.specs.Calls.{isFound, rowIn, Done}
+use Rattle.checking.specs.Calls.{usedRow, rowIn, Done}
 use Rattle.treatments.specs.declared.verdicts.Verdict.{Verdict}
 use Rattle.treatments.specs.declared.verdicts.Verdict.the-variants.{Refuse, Mark, Post}
 
--- ---- refusals 6 to 17, of the collection k
+-- ---- refusals 6 to 17, of the collection k, which is there or not
 
-abbrev pub firstChecks : ℕ → ℕ → Treatment → Found → Collection → List (Check Answer)
-firstChecks latest date t found k =
+abbrev pub firstChecks : ℕ → ℕ → Treatment → Bool → Collection → List (Check Answer)
+firstChecks latest date t there k =
     check (leb latest date) (Refused BeforeLatest)
     ∷ check (dayTreated t date) (Refused NotBusinessDay)
-    ∷ check (isFound found) (Refused DoesNotExist)
+    ∷ check there (Refused DoesNotExist)
     ∷ check (stateFits t (k .state)) (Refused WrongState)
     ∷ check (dueTreated t (k .due) date) (Refused BeforeDue)
     ∷ []
@@ -52,11 +52,11 @@ firstChecks latest date t found k =
 abbrev pub lastChecks : ℕ → Treatment → Collection → List (Check Answer)
 lastChecks date t k = check (timeTreated t (k .state) date) (Refused AfterLastDay) ∷ []
 
-abbrev pub treatChecks : ℕ → ℕ → Treatment → Found → Collection → List (Check Answer)
-treatChecks latest date t found k = firstChecks latest date t found k ++ lastChecks date t k
+abbrev pub treatChecks : ℕ → ℕ → Treatment → Bool → Collection → List (Check Answer)
+treatChecks latest date t there k = firstChecks latest date t there k ++ lastChecks date t k
 
-abbrev pub treatJudged : ℕ → ℕ → Treatment → Found → Collection → Answer
-treatJudged latest date t found k = judged (treatChecks latest date t found k) Accepted
+abbrev pub treatJudged : ℕ → ℕ → Treatment → Bool → Collection → Answer
+treatJudged latest date t there k = judged (treatChecks latest date t there k) Accepted
 
 -- ---- what an undoing posts, for any numbers
 
@@ -75,7 +75,7 @@ undoneOf ByReversal amount settled date = reversedOf amount
 
 -- ---- the verdict
 
--- amounts outside their limits are those of no fit row
+-- amounts outside their limits are those of no fit row and no rate within its limit
 abbrev pub postVerdict : Collection → PostingsAnswer → Verdict
 postVerdict k (Amounts p) = Post k p
 postVerdict k OutsideLimits = Refuse UnfitMemory
@@ -91,12 +91,12 @@ abbrev pub byAnswer : Answer → Verdict → Verdict
 byAnswer Accepted v = v
 byAnswer (Refused r) v = Refuse r
 
-abbrev pub verdictOn : ℕ → ℕ → Treatment → Found → Collection → Verdict
-verdictOn latest date t found k = byAnswer (treatJudged latest date t found k) (goVerdict t date k)
+abbrev pub verdictOn : ℕ → ℕ → Treatment → Bool → Collection → Verdict
+verdictOn latest date t there k = byAnswer (treatJudged latest date t there k) (goVerdict t date k)
 
 -- ---- what is written for a verdict
 
--- the table has an entry for the number, and 64 bits hold the sum
+-- the table has an entry for the number, and position and amount lie within the limit, so that 64 bits hold the sum
 abbrev pub held : List ℤ → ℕ → ℤ → Bool
 held positions number amount =
     allOf
@@ -148,7 +148,8 @@ headerAfter h date cents = record {
 -- ---- the call
 
 abbrev pub verdictAt : Found → Ledger → ℕ → Treatment → Verdict
-verdictAt found l date t = verdictOn (l .latest) date t found (collectionAt (l .collections) (rowIn found))
+verdictAt found l date t =
+    verdictOn (l .latest) date t (usedRow (l .collections) (l .collectionsUsed) found) (collectionAt (l .collections) (rowIn found))
 
 abbrev pub Treated : Found → Ledger → ℕ → Treatment → Outcome → Ledger → Type 0
 Treated found l date t r l' =

@@ -11,6 +11,7 @@ use crate::verdicts::Verdict;
 use crate::verdicts::verdict_on;
 use checking::Outcome;
 use checking::dated_header;
+use checking::is_used;
 use checking::row_in;
 use model::Answer;
 use model::Treatment;
@@ -146,12 +147,13 @@ pub fn treat(
 ) -> Outcome
     ensures { λ r. ⌜ ((m c : List ℕ) → Treated found (ledger header m (now (collections .entry)) c (now («creditor_positions» .entry)) (now («debtor_positions» .entry)) (now («bank_positions» .entry))) date t r (ledger (r .header) m (now (collections .exit)) c (now («creditor_positions» .exit)) (now («debtor_positions» .exit)) (now («bank_positions» .exit)))) ⌝ }
 {
+    let there = is_used(found, collections, header.collections);
     let row = row_in(found);
     match verdict_on(
         header.latest,
         date,
         t,
-        found,
+        there,
         collection_at(collections, row),
     ) {
         Verdict::Refuse(r) => Outcome {

@@ -8,7 +8,6 @@ ghost use Rattle.treatments.specs.Treatments.{firstChecks, lastChecks, t
 use crate::undoing::undone;
 use calendar::target::is_business_day;
 use checking::first_failing;
-use checking::is_found;
 use checking::none_fails;
 use deadlines::undoings::is_in_time;
 use model::Answer;
@@ -19,10 +18,9 @@ use positions::PostingsAnswer;
 use positions::amounts::settlement;
 use refusals::Refusal;
 use tables::Collection;
-use tables::Found;
 use tables::State;
 use tables::Undoing;
-use tables::anew::in_state;
+use tables::anew::with_state;
 
 // Refuse; or write the collection to its row, alone or with the amounts to post.
 pub enum Verdict {
@@ -133,18 +131,18 @@ fn state_after(t: Treatment, date: u64) -> State
 fn treated(t: Treatment, date: u64, k: Collection) -> Collection
     ensures { λ r. ⌜ r ≡ treatedBy t date k ⌝ }
 {
-    in_state(k, state_after(t, date))
+    with_state(k, state_after(t, date))
 }
 
 // Refusals 6 to 16, of the collection in the row that was found.
-fn judge_first(latest: u64, date: u64, t: Treatment, found: Found, k: Collection) -> Answer
-    ensures { λ r. ⌜ r ≡ judged (firstChecks latest date t found k) Accepted ⌝ }
+fn judge_first(latest: u64, date: u64, t: Treatment, there: bool, k: Collection) -> Answer
+    ensures { λ r. ⌜ r ≡ judged (firstChecks latest date t there k) Accepted ⌝ }
 {
     let s = k.state;
     let mut tests = none_fails();
     tests.order = latest <= date;
     tests.day = day_fits(t, date);
-    tests.there = is_found(found);
+    tests.there = there;
     tests.state = state_fits(t, s);
     tests.due = due_fits(t, k.due, date);
     first_failing(tests)
@@ -161,16 +159,16 @@ fn judge_last(date: u64, t: Treatment, k: Collection) -> Answer
 }
 
 // Refusals 6 to 17. The last day is worked out only where nothing refuses before.
-fn judge(latest: u64, date: u64, t: Treatment, found: Found, k: Collection) -> Answer
-    ensures { λ r. ⌜ r ≡ treatJudged latest date t found k ⌝ }
+fn judge(latest: u64, date: u64, t: Treatment, there: bool, k: Collection) -> Answer
+    ensures { λ r. ⌜ r ≡ treatJudged latest date t there k ⌝ }
 {
-    match judge_first(latest, date, t, found, k) {
+    match judge_first(latest, date, t, there, k) {
         Answer::Refused(r) => Answer::Refused(r),
         Answer::Accepted => judge_last(date, t, k),
     }
 }
 
-// The verdict to post; no row of a fit table has amounts outside their limits.
+// The verdict to post; no row of a fit table has amounts outside their limits, at a rate within its own.
 fn post_verdict(k: Collection, p: PostingsAnswer) -> Verdict
     ensures { λ r. ⌜ r ≡ postVerdict k p ⌝ }
 {
@@ -194,10 +192,10 @@ fn go_verdict(t: Treatment, date: u64, k: Collection) -> Verdict
 }
 
 // The verdict on the collection in the row that was found.
-pub fn verdict_on(latest: u64, date: u64, t: Treatment, found: Found, k: Collection) -> Verdict
-    ensures { λ r. ⌜ r ≡ verdictOn latest date t found k ⌝ }
+pub fn verdict_on(latest: u64, date: u64, t: Treatment, there: bool, k: Collection) -> Verdict
+    ensures { λ r. ⌜ r ≡ verdictOn latest date t there k ⌝ }
 {
-    match judge(latest, date, t, found, k) {
+    match judge(latest, date, t, there, k) {
         Answer::Refused(r) => Verdict::Refuse(r),
         Answer::Accepted => go_verdict(t, date, k),
     }

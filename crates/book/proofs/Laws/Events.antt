@@ -17,6 +17,7 @@ use Rattle.tables.specs.declared.Header.{Header}
 use Rattle.tables.specs.Ledger.{Ledger}
 use Rattle.tables.specs.Lookup.{lookup, lookupSince, MayStart}
 use Rattle.fitness.specs.Fitness.{fit}
+use Rattle.fitness.proofs.Laws.Fitness.{fit-facts}
 use Rattle.model.specs.declared.Answer.the-variants.{Refused}
 use Rattle.model.specs.declared.Action.{Action}
 use Rattle.model.specs.declared.Action.the-variants.{Treat}
@@ -86,7 +87,7 @@ module _ (l : Ledger) (e : Event) (mandate collection : Found) (r : Outcome) (l'
   acted-ruled =
       let m = checked-facts e w in
       kind-cases (Ruled (actionOf e)) (e .kind) (m .kind) (
-        λ i. asks _ (action-creditor e i) (creditor-ruled l (e .date) r l' (e .a) (e .b) (creditor-facts e m i .creditor .from)),
+        λ i. asks _ (action-creditor e i) (creditor-ruled l (e .date) r l' (e .a) (e .b) (creditor-facts e m i .creditor .from) (omega (arith, creditor-facts e m i .creditor .to, fit-facts l f .sizes .creditor-table))),
         (
           λ i. asks _ (action-mandate e i) (mandate-ruled l (e .date) r l' mandate (newMandate e) (names-mandate 2 i refl)),
           (

@@ -1,4 +1,4 @@
--- The call for a text of events over lent cells, from book's. To cite: `text-refused`, `text-taken`. Assumes nothing.
+-- The call for a text of events over lent cells, from text's. To cite: `text-refused`, `text-taken`. Assumes nothing.
 use mathlib.Core.Path.{_≡_, ap, subst, _∙_}
 use mathlib.Core.Bool.{Bool, true, false, cond}
 use mathlib.Core.List.{List, [], _∷_}
@@ -48,7 +48,7 @@ module _ (state : List ℕ) (cents : List ℤ) (l : Ledger) (text out : List ℕ
     out-is = rw f;
   }
 
--- ---- taken by book's call
+-- ---- taken by text's call
 
 -- the tables of a ledger under another header
 abbrev pub under : Header → Ledger → Ledger

@@ -27,7 +27,7 @@ use Rattle.model.specs.Checks.{settledOn}
 use Rattle.model.specs.Effects.{effect}
 use Rattle.model.specs.Step.{isAccepted, answer, after, run, entry, history}
 use Rattle.model.specs.Journal.{Journal, feed, journalFrom}
-use Rattle.model.specs.Noted.{heldOf, heldKnown, SameKnown, started}
+use Rattle.model.specs.Noted.{rowNoted, rowNotedKnown, SameKnown, started}
 use Rattle.model.specs.Promises.{Agrees, AgreesFromAnyStart}
 use Rattle.model.proofs.Laws.Sound.{Sound, Passed}
 use Rattle.model.proofs.Laws.Effects.{not-known, mandate-there, CollectionThere, collection-there}
@@ -84,8 +84,8 @@ agrees-run base l j g (e ∷ es) =
 
 -- ---- the start
 
-held-same : (x : Known Collection) → SameKnown x (heldKnown x)
-unfolding heldOf
+held-same : (x : Known Collection) → SameKnown x (rowNotedKnown x)
+unfolding rowNoted
 held-same unknown = tt
 held-same (known k) =
     record { creditor = refl; debtor = refl; cbank = refl; dbank = refl; amount = refl; settled = λ s e. ap settledOn e }

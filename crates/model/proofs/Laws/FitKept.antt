@@ -203,13 +203,13 @@ module _ (l : Ledger) (f : fit l ≡ true) (date : ℕ) (range : inRange date �
         presented-date = p;
       }
 
-  changed-fits : (c : Change) (m : Mandate) → SoundChange c → changeNames l c ≡ true → MandateFit (l .creditors) m → MandateFit (l .creditors) (changed c m)
+  changed-fits : (c : Change) (m : Mandate) → SoundChange c → changeNames (l .creditors) c ≡ true → MandateFit (l .creditors) m → MandateFit (l .creditors) (changed c m)
   unfolding changed
   changed-fits (NewBank b) m s a h = remade-fits m _ b _ _ _ (h .creditor-fit) (h .creditor-added) s (h .presented-date) h
   changed-fits (NewCreditor c) m s a h = remade-fits m c _ _ _ _ s a (h .bank-fit) (h .presented-date) h
   changed-fits Cancel m s a h = remade-fits m _ _ _ _ _ (h .creditor-fit) (h .creditor-added) (h .bank-fit) (h .presented-date) h
 
-  pub fit-change : (n : ℕ) (c : Change) (t : MandateThere l n) → SoundChange c → changeNames l c ≡ true → fit (effect l date (ChangeMandate n c)) ≡ true
+  pub fit-change : (n : ℕ) (c : Change) (t : MandateThere l n) → SoundChange c → changeNames (l .creditors) c ≡ true → fit (effect l date (ChangeMandate n c)) ≡ true
   fit-change n c t s a =
       rw (effect-change l date n c t)
       (fit-made (keepMandate (dated l date) (t .row) (changed c (t .mandate)))

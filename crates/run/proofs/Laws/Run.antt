@@ -1,5 +1,5 @@
 -- Laws of specs/Run. To cite: `one-line`; `piece-by-piece` for two pieces and `in-pieces` (specs/Promises) for any number; for a run over
--- the lines of a text `Answering` with `answering-start`, `answering-line`, `rest-after`. Of a listing: Laws/Listing. Assumes nothing.
+-- the lines of a text `Answering` with `answering-start`, `answering-line`, `rest-after`. Assumes nothing.
 use mathlib.Core.Path.{_≡_, refl, sym, ap, _∙_}
 use mathlib.Core.Bool.{Bool, true, false, cond}
 use mathlib.Core.Logic.{⊎-elim, _≢_}

@@ -5,7 +5,7 @@ use mathlib.Core.Bool.{Bool, true, false, not}
 use mathlib.Core.List.{List}
 use Prim.Native.Nat.{ℕ, zero, suc, _+_, _-_, _≤_, _<_}
 use native.Mathlib.Omega.{arith}
-use borrow.Author.Tests.{leb-true, ltb-true, ltb-false}
+use borrow.Author.Tests.{leb-true, ltb-true, ltb-false, lt-ltb}
 use lib.Dec.{eqb, ltb}
 use lib.IntN.{ℤ, pos, natAbs}
 use lib.ListN.{length, getD, List·getD-eq-default}
@@ -39,7 +39,7 @@ use Rattle.tables.specs.declared.Found.{Found}
 use Rattle.tables.specs.declared.Found.the-variants.{At, Nothing}
 use Rattle.tables.specs.Limits.{creditorCount, debtorCount, bankCount, amountLimit}
 use Rattle.tables.specs.Ledger.{Ledger}
-use Rattle.tables.specs.Lookup.{lookup}
+use Rattle.tables.specs.Lookup.{existing, lookup}
 use Rattle.tables.specs.Rows.{collectionAt}
 use Rattle.tables.specs.Records.{stateTag, stateDay}
 use Rattle.tables.proofs.Laws.Lookup.{lookup-at, existing-used}
@@ -57,7 +57,7 @@ use Rattle.model.specs.Checks.{isSettled, settledOn, stateFits, timeTreated, ru
 use Rattle.model.specs.Deadlines.{core, periodOf, lastDay, inTime, daysSince}
 use Rattle.model.specs.Effects.{treated, undone, effect}
 use Rattle.checking.specs.declared.Outcome.{Outcome}
-use Rattle.checking.specs.Calls.{rowIn, Done}
+use Rattle.checking.specs.Calls.{usedRow, rowIn, Done}
 use Rattle.checking.proofs.Laws.Calls.{done-same, judged-passes}
 use Rattle.treatments.specs.declared.verdicts.Verdict.{Verdict}
 use Rattle.treatments.specs.Treatments.{treatChecks, treatJudged, refundFor, refundAfter, undoneOf, goVerdict, byAnswer, held, postable, answerFor, effectFor, Treated}
@@ -272,10 +272,14 @@ effect-by a v row date l e = rw e
 module _ (l : Ledger) (date number : ℕ) (t : Treatment) where
   treat-answer :
       (f : Found) → lookup (l .collections) (l .collectionsUsed) number ≡ f
-      → treatJudged (l .latest) date t f (collectionAt (l .collections) (rowIn f)) ≡ ruled l date (Treat number t)
+      → treatJudged (l .latest) date t (usedRow (l .collections) (l .collectionsUsed) f) (collectionAt (l .collections) (rowIn f)) ≡ ruled l date (Treat number t)
   unfolding ruled collectionOf
   treat-answer Nothing e = rw e
-  treat-answer (At row) e = rw e
+  treat-answer (At row) e =
+      rw (
+        e,
+        lt-ltb row (existing (l .collections) (l .collectionsUsed)) (lookup-at (l .collections) (l .collectionsUsed) number row e .existing-row),
+      )
 
 -- what an accepted treatment is, of the collection k of a fit ledger
 record Goes (l : Ledger) (date row : ℕ) (t : Treatment) (k : Collection) (changed : Ledger) : Type 0 where
@@ -320,13 +324,13 @@ module _ (l : Ledger) (date number row : ℕ) (e : lookup (l .collections) (l .c
 module _ (l : Ledger) (date number : ℕ) (t : Treatment) (f : fit l ≡ true) (a : Asked t date) where
   by-found :
       (found : Found) → lookup (l .collections) (l .collectionsUsed) number ≡ found
-      → treatJudged (l .latest) date t found (collectionAt (l .collections) (rowIn found)) ≡ Accepted
+      → treatJudged (l .latest) date t (usedRow (l .collections) (l .collectionsUsed) found) (collectionAt (l .collections) (rowIn found)) ≡ Accepted
       → Goes l date (rowIn found) t (collectionAt (l .collections) (rowIn found)) (effect l date (Treat number t))
   unfolding k
   by-found Nothing e q =
-      absurd (never (judged-passes (treatChecks (l .latest) date t Nothing (collectionAt (l .collections) 0)) refl q 2) refl)
+      absurd (never (judged-passes (treatChecks (l .latest) date t false (collectionAt (l .collections) 0)) refl q 2) refl)
   by-found (At row) e q =
-      let passed = judged-passes (treatChecks (l .latest) date t (At row) (collectionAt (l .collections) row)) refl q in
+      let passed = judged-passes (treatChecks (l .latest) date t (usedRow (l .collections) (l .collectionsUsed) (At row)) (collectionAt (l .collections) row)) refl q in
       goes l date number row e f (leb-true (l .latest) date (passed 0)) t a (passed 3) (passed 5)
 
   pub treat-ruled :
@@ -334,7 +338,7 @@ module _ (l : Ledger) (date number : ℕ) (t : Treatment) (f : fit l ≡ true) (
       → Treated found l date t r l' → Done (ruled l date (Treat number t)) l (effect l date (Treat number t)) r l'
   treat-ruled r l' found e d =
       let k = collectionAt (l .collections) (rowIn found) in
-      let j = treatJudged (l .latest) date t found k in
+      let j = treatJudged (l .latest) date t (usedRow (l .collections) (l .collectionsUsed) found) k in
       let v = goVerdict t date k in
       let same = answer-by j v l (λ q. by-found found (sym e) q .accepted) in
       done-same _ _ l _ _ r l' (same ∙ treat-answer l date number t found (sym e))

@@ -10,114 +10,88 @@ use mathlib.Core.Path.{sym, _∙_}
 use borrow.Author.Needs.{needs}
 use Rattle.records.proofs.collects.collect.Statement.{statement}
 use Rattle.records.proofs.collects.collect.Tie as tie
-use Rattle.records.proofs.collects.collect.Reads as reads
-use Rattle.records.proofs.collects.collect.Lts as lts
-use Rattle.checking.proofs.dated_header.Reads as dated-header-reads
-use Rattle.checking.proofs.row_in.Reads as row-in-reads
-use Rattle.records.proofs.collects.judge_collect.Reads as judge-collect-reads
-use Rattle.records.proofs.collects.new_collection.Reads as new-collection-reads
-use Rattle.records.proofs.collects.presented_on.Reads as presented-on-reads
-use Rattle.tables.proofs.rows.mandate_at.Reads as mandate-at-reads
-use Rattle.tables.proofs.rows.put_collection.Reads as put-collection-reads
-use Rattle.tables.proofs.rows.put_mandate.Reads as put-mandate-reads
-use Rattle.tables.proofs.rows.rows_of.Reads as rows-of-reads
 
--- src/collects.rt:178:23
 rows-of-requires : tie.Need-rows-of-requires
 rows-of-requires c κs = search needs
 
--- src/collects.rt:179:9
+is-used-requires : tie.Need-is-used-requires
+is-used-requires c κs = search needs
+
 row-in-requires : tie.Need-row-in-requires
 row-in-requires c κs = search needs
 
--- src/collects.rt:180:9
 mandate-at-requires : tie.Need-mandate-at-requires
 mandate-at-requires c κs = search needs
 
--- src/collects.rt:181:11
 judge-collect-requires : tie.Need-judge-collect-requires
 judge-collect-requires c κs = search needs
 
--- src/collects.rt:182:32
 enum-known-r : tie.Need-enum-known-r
 enum-known-r c = search needs
 
--- src/collects.rt:186:28
 enum-known-due : tie.Need-enum-known-due
 enum-known-due c = search needs
 
--- src/collects.rt:187:40
 presented-on-requires : tie.Need-presented-on-requires
 presented-on-requires c κs =
-    let a = c .before .before .before .before .before .before .before .before .before .before .before .before .before .args in
-    (verdict-go (collectJudged (a .header .latest) (a .date) (a .p) (a .mandate) (a .collection) (ltb (a .header .collections) ((c .before .before .before .before .before .before .before .before .rows-of) .result)) ((c .before .before .before .before .before .mandate-at) .result)) (keptDue (a .p .requested)) _
+    let a = c .before .before .before .before .before .before .before .before .before .before .before .before .before .before .before .args in
+    (verdict-go (collectJudged (a .header .latest) (a .date) (a .p) ((c .before .before .before .before .before .before .before .before .is-used) .result) (a .collection) (ltb (a .header .collections) ((c .before .before .before .before .before .before .before .before .before .before .rows-of) .result)) ((c .before .before .before .before .before .mandate-at) .result)) (keptDue (a .p .requested)) _
     (sym ((c .before .before .before .before .judge-collect) .ensures) ∙ (c .before .before .due) .given .1)) .1
 
--- src/collects.rt:187:13
 put-mandate-requires : tie.Need-put-mandate-requires
 put-mandate-requires c κs = search needs
 
--- src/collects.rt:188:47
 new-collection-requires : tie.Need-new-collection-requires
 new-collection-requires c κs =
-    let a = c .before .before .before .before .before .before .before .before .before .before .before .before .before .before .before .before .before .before .args in
-    (verdict-go (collectJudged (a .header .latest) (a .date) (a .p) (a .mandate) (a .collection) (ltb (a .header .collections) ((c .before .before .before .before .before .before .before .before .before .before .before .before .before .rows-of) .result)) ((c .before .before .before .before .before .before .before .before .before .before .mandate-at) .result)) (keptDue (a .p .requested)) _
+    let a = c .before .before .before .before .before .before .before .before .before .before .before .before .before .before .before .before .before .before .before .before .args in
+    (verdict-go (collectJudged (a .header .latest) (a .date) (a .p) ((c .before .before .before .before .before .before .before .before .before .before .before .before .before .is-used) .result) (a .collection) (ltb (a .header .collections) ((c .before .before .before .before .before .before .before .before .before .before .before .before .before .before .before .rows-of) .result)) ((c .before .before .before .before .before .before .before .before .before .before .mandate-at) .result)) (keptDue (a .p .requested)) _
     (sym ((c .before .before .before .before .before .before .before .before .before .judge-collect) .ensures) ∙ (c .before .before .before .before .before .before .before .due) .given .1)) .1
 
--- src/collects.rt:188:13
 put-collection-requires : tie.Need-put-collection-requires
 put-collection-requires c κs = search needs
 
--- src/collects.rt:191:69
 add-dated-header : tie.Need-add-dated-header
 add-dated-header c =
-    let s = c .before .before .before .before .before .before .before .before .before .before .before .before .before .before .before .before .before .before .before .before .before .before in
+    let s = c .before .before .before .before .before .before .before .before .before .before .before .before .before .before .before .before .before .before .before .before .before .before .before .before in
     let a = s .args in
     let room : a .header .collections < rows (a .collections .now) =
-    rw ((c .before .before .before .before .before .before .before .before .before .before .before .before .before .before .before .before .before .rows-of) .ensures) at
-    (collect-room (a .header .latest) (a .date) (a .p) (a .mandate) (a .collection) (a .header .collections) ((c .before .before .before .before .before .before .before .before .before .before .before .before .before .before .before .before .before .rows-of) .result) ((c .before .before .before .before .before .before .before .before .before .before .before .before .before .before .mandate-at) .result)
-    ((verdict-go (collectJudged (a .header .latest) (a .date) (a .p) (a .mandate) (a .collection) (ltb (a .header .collections) ((c .before .before .before .before .before .before .before .before .before .before .before .before .before .before .before .before .before .rows-of) .result)) ((c .before .before .before .before .before .before .before .before .before .before .before .before .before .before .mandate-at) .result)) (keptDue (a .p .requested)) _
+    rw ((c .before .before .before .before .before .before .before .before .before .before .before .before .before .before .before .before .before .before .before .rows-of) .ensures) at
+    (collect-room (a .header .latest) (a .date) (a .p) ((c .before .before .before .before .before .before .before .before .before .before .before .before .before .before .before .before .before .is-used) .result) (a .collection) (a .header .collections) ((c .before .before .before .before .before .before .before .before .before .before .before .before .before .before .before .before .before .before .before .rows-of) .result) ((c .before .before .before .before .before .before .before .before .before .before .before .before .before .before .mandate-at) .result)
+    ((verdict-go (collectJudged (a .header .latest) (a .date) (a .p) ((c .before .before .before .before .before .before .before .before .before .before .before .before .before .before .before .before .before .is-used) .result) (a .collection) (ltb (a .header .collections) ((c .before .before .before .before .before .before .before .before .before .before .before .before .before .before .before .before .before .before .before .rows-of) .result)) ((c .before .before .before .before .before .before .before .before .before .before .before .before .before .before .mandate-at) .result)) (keptDue (a .p .requested)) _
     (sym ((c .before .before .before .before .before .before .before .before .before .before .before .before .before .judge-collect) .ensures) ∙ (c .before .before .before .before .before .before .before .before .before .before .before .due) .given .1)) .0))
     in
     omega (arith, s .good .1 .1 .1 .1 .1 .1 .0 .0)
 
--- src/collects.rt:191:25
 dated-header-requires : tie.Need-dated-header-requires
 dated-header-requires c κs = search needs
 
--- src/collects.rt:165:1
 same-length : tie.Need-same-length
 same-length c = search needs
 
--- src/collects.rt:165:1
 same-length-2 : tie.Need-same-length-2
 same-length-2 c = search needs
 
--- src/collects.rt:165:1
 returns : tie.Need-returns
 returns c =
     λ cp dp bp.
-    let a = c .before .before .before .before .before .before .before .before .before .before .before .before .args in
+    let a = c .before .before .before .before .before .before .before .before .before .before .before .before .before .before .args in
     done-refused _ _ _ _ _
-    (rw (← (c .before .before .before .before .before .before .row-in) .ensures, ← (c .before .before .before .before .mandate-at) .ensures, ← (c .before .before .before .before .before .before .before .rows-of) .ensures)
-    (verdict-refuse (collectJudged (a .header .latest) (a .date) (a .p) (a .mandate) (a .collection) (ltb (a .header .collections) ((c .before .before .before .before .before .before .before .rows-of) .result)) ((c .before .before .before .before .mandate-at) .result)) (keptDue (a .p .requested)) _
+    (rw (← (c .before .before .before .before .before .before .before .is-used) .ensures, ← (c .before .before .before .before .before .before .row-in) .ensures, ← (c .before .before .before .before .mandate-at) .ensures, ← (c .before .before .before .before .before .before .before .before .before .rows-of) .ensures)
+    (verdict-refuse (collectJudged (a .header .latest) (a .date) (a .p) ((c .before .before .before .before .before .before .before .is-used) .result) (a .collection) (ltb (a .header .collections) ((c .before .before .before .before .before .before .before .before .before .rows-of) .result)) ((c .before .before .before .before .mandate-at) .result)) (keptDue (a .p .requested)) _
     (sym ((c .before .before .before .judge-collect) .ensures) ∙ (c .before .r) .given .1)))
 
--- src/collects.rt:165:1
 same-length-3 : tie.Need-same-length-3
 same-length-3 c = search needs
 
--- src/collects.rt:165:1
 same-length-4 : tie.Need-same-length-4
 same-length-4 c = search needs
 
--- src/collects.rt:165:1
 returns-2 : tie.Need-returns-2
 returns-2 c =
     λ cp dp bp.
-    let a = c .before .before .before .before .before .before .before .before .before .before .before .before .before .before .before .before .before .before .before .before .before .before .before .args in
+    let a = c .before .before .before .before .before .before .before .before .before .before .before .before .before .before .before .before .before .before .before .before .before .before .before .before .before .args in
     done-accepted _ _ _ _ _
-    (rw (← (c .before .before .before .before .before .before .before .before .before .before .before .before .before .before .before .before .before .row-in) .ensures, ← (c .before .before .before .before .before .before .before .before .before .before .before .before .before .before .before .mandate-at) .ensures, ← (c .before .before .before .before .before .before .before .before .before .before .before .before .before .before .before .before .before .before .rows-of) .ensures) ((verdict-go (collectJudged (a .header .latest) (a .date) (a .p) (a .mandate) (a .collection) (ltb (a .header .collections) ((c .before .before .before .before .before .before .before .before .before .before .before .before .before .before .before .before .before .before .rows-of) .result)) ((c .before .before .before .before .before .before .before .before .before .before .before .before .before .before .before .mandate-at) .result)) (keptDue (a .p .requested)) _
+    (rw (← (c .before .before .before .before .before .before .before .before .before .before .before .before .before .before .before .before .before .before .is-used) .ensures, ← (c .before .before .before .before .before .before .before .before .before .before .before .before .before .before .before .before .before .row-in) .ensures, ← (c .before .before .before .before .before .before .before .before .before .before .before .before .before .before .before .mandate-at) .ensures, ← (c .before .before .before .before .before .before .before .before .before .before .before .before .before .before .before .before .before .before .before .before .rows-of) .ensures) ((verdict-go (collectJudged (a .header .latest) (a .date) (a .p) ((c .before .before .before .before .before .before .before .before .before .before .before .before .before .before .before .before .before .before .is-used) .result) (a .collection) (ltb (a .header .collections) ((c .before .before .before .before .before .before .before .before .before .before .before .before .before .before .before .before .before .before .before .before .rows-of) .result)) ((c .before .before .before .before .before .before .before .before .before .before .before .before .before .before .before .mandate-at) .result)) (keptDue (a .p .requested)) _
     (sym ((c .before .before .before .before .before .before .before .before .before .before .before .before .before .before .judge-collect) .ensures) ∙ (c .before .before .before .before .before .before .before .before .before .before .before .before .due) .given .1)) .0))
     (rw (c .dated-header .ensures, (c .before .before .before .before .before .before .before .before .put-mandate) .ensures, (c .before .before .before .before .before .before .before .before .before .presented-on) .ensures, (c .before .before .before .put-collection) .ensures, (c .before .before .before .before .new-collection) .ensures, (c .before .before .before .before .before .before .before .before .before .before .before .before .before .before .before .mandate-at) .ensures, (c .before .before .before .before .before .before .before .before .before .before .before .before .before .before .before .before .before .row-in) .ensures))
 
@@ -126,6 +100,7 @@ collect-spec =
     tie.close
     (tie.spec
     rows-of-requires
+    is-used-requires
     row-in-requires
     mandate-at-requires
     judge-collect-requires

@@ -2,32 +2,22 @@ use mathlib.Core.Path.{sym, _∙_}
 use borrow.Author.Needs.{needs}
 use Rattle.records.proofs.collects.judge_due.Statement.{statement}
 use Rattle.records.proofs.collects.judge_due.Tie as tie
-use Rattle.records.proofs.collects.judge_due.Reads as reads
-use Rattle.records.proofs.collects.judge_due.Lts as lts
-use Rattle.deadlines.proofs.collects.kept_due.Reads as kept-due-reads
-use Rattle.records.proofs.collects.judge_dates.Reads as judge-dates-reads
 
--- src/collects.rt:95:9
 kept-due-requires : tie.Need-kept-due-requires
 kept-due-requires c κs = search needs
 
--- src/collects.rt:96:11
 judge-dates-requires : tie.Need-judge-dates-requires
 judge-dates-requires c κs = c .kept-due .ensures
 
--- src/collects.rt:97:25
 enum-known-r : tie.Need-enum-known-r
 enum-known-r c = search needs
 
--- src/collects.rt:98:29
 enum-told : tie.Need-enum-told
 enum-told c = search needs
 
--- src/collects.rt:92:1
 returns : tie.Need-returns
 returns c = rw (sym ((c .before .before .before .judge-dates) .ensures) ∙ (c .before .r) .given .1)
 
--- src/collects.rt:92:1
 returns-2 : tie.Need-returns-2
 returns-2 c = rw (sym ((c .before .before .judge-dates) .ensures) ∙ c .enum-told .given .1, (c .before .before .before .kept-due) .ensures)
 

@@ -6,9 +6,6 @@ use Rattle.records.proofs.mandates.judge_change.Tie as tie
 none-fails-requires : tie.Need-none-fails-requires
 none-fails-requires c κs = search needs
 
-is-found-requires : tie.Need-is-found-requires
-is-found-requires c κs = search needs
-
 names-added-requires : tie.Need-names-added-requires
 names-added-requires c κs = search needs
 
@@ -19,14 +16,13 @@ first-failing-requires : tie.Need-first-failing-requires
 first-failing-requires c κs = search needs
 
 returns : tie.Need-returns
-returns c = c .first-failing .ensures ∙ rw ((c .before .is-live) .ensures, (c .before .before .names-added) .ensures, (c .before .before .before .is-found) .ensures, (c .before .before .before .before .before .none-fails) .ensures)
+returns c = c .first-failing .ensures ∙ rw ((c .before .is-live) .ensures, (c .before .before .names-added) .ensures, (c .before .before .before .before .none-fails) .ensures)
 
 pub judge-change-spec : {M : Type 1} → statement M
 judge-change-spec =
     tie.close
     (tie.spec
     none-fails-requires
-    is-found-requires
     names-added-requires
     is-live-requires
     first-failing-requires

@@ -1,6 +1,7 @@
+-- `take_sound` meets its contract: refusal 2, or what `act` did by the rows that were found. Assumes nothing.
 use Rattle.tables.specs.Ledger.{ledger}
 use Rattle.book.proofs.Laws.Events.{found-for, acted-taken, taken-unfit}
-use Rattle.common.proofs.Tests.{not-true, not-false}
+use Rattle.common.proofs.Tests.{not-true, not-false, and-halves}
 use mathlib.Core.Path.{sym, _∙_}
 use borrow.Author.Needs.{needs}
 use Rattle.text.proofs.text.take_sound.Statement.{statement}
@@ -65,13 +66,13 @@ same-length-12 c = search needs
 
 returns-2 : tie.Need-returns-2
 returns-2 c =
-    let s = c .before .before .before .before .before .before .before .before .before .before .before .before .before .before .before .before .before .before .before .before .before .before .before .before .before .before .before .before .before .before .before .before .before .before .before in
+    let s = c .before .before .before .before .before .before .before .before .before .before .before .before .before .before .before .before .before .before .before .before .before .before .before .before .before .before .before .before .before .before .before .before .before .before .before .before .before in
     let a = s .args in
     let l = ledger (a .header) (a .mandates .now) (a .collections .now) (a .creditors .now) (a .creditor-positions .now) (a .debtor-positions .now) (a .bank-positions .now) in
-    acted-taken l (a .e) _ _ _ _ (sym ((c .before .before .before .before .before .before .before .before .before .before .before .before .before .before .before .before .before .before .before .before .before .before .before .before .before .may-act) .ensures) ∙ not-false (c .before .before .before .before .before .before .before .before .before .before .before .before .before .before .before .before .before .before .before .before .before .before .before .before .if1 .left)) (s .pre .is-within)
+    acted-taken l (a .e) _ _ _ _ (sym ((c .before .before .before .before .before .before .before .before .before .before .before .before .before .before .before .before .before .before .before .before .before .before .before .before .before .before .before .may-act) .ensures) ∙ not-false (c .before .before .before .before .before .before .before .before .before .before .before .before .before .before .before .before .before .before .before .before .before .before .before .before .before .before .if1 .left)) (s .pre .is-within)
     (found-for (a .e) l _ _ _ _
-    ((c .before .before .before .before .before .before .before .before .before .before .before .before .before .before .before .before .before .before .before .before .before .before .start) .ensures _ (λ k. s .pre .tested k .mandates))
-    ((c .before .before .before .before .before .before .before .before .before .before .before .before .before .before .before .before .before .before .before .before .start2) .ensures _ (λ k. s .pre .tested k .collections))
+    ((c .before .before .before .before .before .before .before .before .before .before .before .before .before .before .before .before .before .before .before .before .before .before .before .start) .ensures _ (λ k. s .pre .tested (and-halves (a .known) k .0) .mandates))
+    ((c .before .before .before .before .before .before .before .before .before .before .before .before .before .before .before .before .before .before .before .before .start2) .ensures _ (λ k. s .pre .tested (and-halves (a .known) k .0) .collections))
     ((c .before .before .before .before .before .before .before .before .before .before .before .before .before .before .before .before .before .before .find-mandate) .ensures)
     ((c .before .before .before .before .before .before .before .before .before .before .before .before .before .before .before .before .find-collection) .ensures))
     ((c .before .before .before .before .before .before .before .before .before .act) .ensures)

@@ -5,6 +5,9 @@ use borrow.Author.Needs.{needs}
 use Rattle.treatments.proofs.treat.treat.Statement.{statement}
 use Rattle.treatments.proofs.treat.treat.Tie as tie
 
+is-used-requires : tie.Need-is-used-requires
+is-used-requires c κs = search needs
+
 row-in-requires : tie.Need-row-in-requires
 row-in-requires c κs = search needs
 
@@ -38,9 +41,9 @@ same-length c = search needs
 returns : tie.Need-returns
 returns c =
     λ m k.
-    let a = c .before .before .before .before .before .before .before .before .args in
+    let a = c .before .before .before .before .before .before .before .before .before .before .args in
     let l = ledger (a .header) m (a .collections .now) k (a .creditor-positions .now) (a .debtor-positions .now) (a .bank-positions .now) in
-    treat-refused (a .found) l (a .date) (a .t) _ ((c .before .r) .given .0 .0) (rw (← (c .before .before .before .before .before .before .row-in) .ensures, ← (c .before .before .before .before .collection-at) .ensures) (sym ((c .before .before .before .verdict-on) .ensures) ∙ (c .before .r) .given .1))
+    treat-refused (a .found) l (a .date) (a .t) _ ((c .before .r) .given .0 .0) (rw (← (c .before .before .before .before .before .before .before .is-used) .ensures, ← (c .before .before .before .before .before .before .row-in) .ensures, ← (c .before .before .before .before .collection-at) .ensures) (sym ((c .before .before .before .verdict-on) .ensures) ∙ (c .before .r) .given .1))
 
 same-length-2 : tie.Need-same-length-2
 same-length-2 c = search needs
@@ -48,9 +51,9 @@ same-length-2 c = search needs
 returns-2 : tie.Need-returns-2
 returns-2 c =
     λ m k.
-    let a = c .before .before .before .before .before .before .before .before .before .before .before .before .before .args in
+    let a = c .before .before .before .before .before .before .before .before .before .before .before .before .before .before .before .args in
     let l = ledger (a .header) m (a .collections .now) k (a .creditor-positions .now) (a .debtor-positions .now) (a .bank-positions .now) in
-    treat-marked (a .found) l (a .date) (a .t) _ ((c .before .before .before .before .before .before .k) .given .0 .0) _ (rw (← (c .before .before .before .before .before .before .before .before .before .before .before .row-in) .ensures, ← (c .before .before .before .before .before .before .before .before .before .collection-at) .ensures) (sym ((c .before .before .before .before .before .before .before .before .verdict-on) .ensures) ∙ (c .before .before .before .before .before .before .k) .given .1)) (rw (c .dated-header .ensures, (c .before .before .before .put-collection) .ensures, (c .before .before .before .before .before .before .before .before .before .before .before .row-in) .ensures))
+    treat-marked (a .found) l (a .date) (a .t) _ ((c .before .before .before .before .before .before .k) .given .0 .0) _ (rw (← (c .before .before .before .before .before .before .before .before .before .before .before .before .is-used) .ensures, ← (c .before .before .before .before .before .before .before .before .before .before .before .row-in) .ensures, ← (c .before .before .before .before .before .before .before .before .before .collection-at) .ensures) (sym ((c .before .before .before .before .before .before .before .before .verdict-on) .ensures) ∙ (c .before .before .before .before .before .before .k) .given .1)) (rw (c .dated-header .ensures, (c .before .before .before .put-collection) .ensures, (c .before .before .before .before .before .before .before .before .before .before .before .row-in) .ensures))
 
 same-length-3 : tie.Need-same-length-3
 same-length-3 c = search needs
@@ -67,14 +70,15 @@ same-length-6 c = search needs
 returns-3 : tie.Need-returns-3
 returns-3 c =
     λ m k.
-    let a = c .before .before .before .before .before .before .before .before .before .before .before .before .before .before .before .before .before .before .args in
+    let a = c .before .before .before .before .before .before .before .before .before .before .before .before .before .before .before .before .before .before .before .before .args in
     let l = ledger (a .header) m (a .collections .now) k (a .creditor-positions .now) (a .debtor-positions .now) (a .bank-positions .now) in
-    treat-paid (a .found) l (a .date) (a .t) ((c .before .before .before .before .before .before .before .before .before .before .before .k2) .given .0 .0) ((c .before .before .before .before .before .before .before .before .before .before .before .k2) .given .0 .1 .0) _ _ (rw (← (c .before .before .before .before .before .before .before .before .before .before .before .before .before .before .before .before .row-in) .ensures, ← (c .before .before .before .before .before .before .before .before .before .before .before .before .before .before .collection-at) .ensures) (sym ((c .before .before .before .before .before .before .before .before .before .before .before .before .before .verdict-on) .ensures) ∙ (c .before .before .before .before .before .before .before .before .before .before .before .k2) .given .1)) (rw (← (c .before .before .before .before .before .before .before .before .before .before .before .before .before .before .before .before .row-in) .ensures) ((c .before .before .before .before .before .pay) .ensures m k))
+    treat-paid (a .found) l (a .date) (a .t) ((c .before .before .before .before .before .before .before .before .before .before .before .k2) .given .0 .0) ((c .before .before .before .before .before .before .before .before .before .before .before .k2) .given .0 .1 .0) _ _ (rw (← (c .before .before .before .before .before .before .before .before .before .before .before .before .before .before .before .before .before .is-used) .ensures, ← (c .before .before .before .before .before .before .before .before .before .before .before .before .before .before .before .before .row-in) .ensures, ← (c .before .before .before .before .before .before .before .before .before .before .before .before .before .before .collection-at) .ensures) (sym ((c .before .before .before .before .before .before .before .before .before .before .before .before .before .verdict-on) .ensures) ∙ (c .before .before .before .before .before .before .before .before .before .before .before .k2) .given .1)) (rw (← (c .before .before .before .before .before .before .before .before .before .before .before .before .before .before .before .before .row-in) .ensures) ((c .before .before .before .before .before .pay) .ensures m k))
 
 pub treat-spec : {M : Type 1} → statement M
 treat-spec =
     tie.close
     (tie.spec
+    is-used-requires
     row-in-requires
     collection-at-requires
     verdict-on-requires

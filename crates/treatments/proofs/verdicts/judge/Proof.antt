@@ -4,38 +4,28 @@ use mathlib.Core.Path.{refl, sym, _∙_}
 use borrow.Author.Needs.{needs}
 use Rattle.treatments.proofs.verdicts.judge.Statement.{statement}
 use Rattle.treatments.proofs.verdicts.judge.Tie as tie
-use Rattle.treatments.proofs.verdicts.judge.Reads as reads
-use Rattle.treatments.proofs.verdicts.judge.Lts as lts
-use Rattle.treatments.proofs.verdicts.judge_first.Reads as judge-first-reads
-use Rattle.treatments.proofs.verdicts.judge_last.Reads as judge-last-reads
 
--- src/verdicts.rt:167:11
 judge-first-requires : tie.Need-judge-first-requires
 judge-first-requires c κs = search needs
 
--- src/verdicts.rt:168:25
 enum-known-r : tie.Need-enum-known-r
 enum-known-r c = search needs
 
--- src/verdicts.rt:169:29
 enum-told : tie.Need-enum-told
 enum-told c = search needs
 
--- src/verdicts.rt:169:29
 judge-last-requires : tie.Need-judge-last-requires
 judge-last-requires c κs = search needs
 
--- src/verdicts.rt:164:1
 returns : tie.Need-returns
 returns c =
     let a = c .before .before .before .before .args in
-    rw (judged-then (firstChecks (a .latest) (a .date) (a .t) (a .found) (a .k)) (lastChecks (a .date) (a .t) (a .k)) refl, sym ((c .before .before .before .judge-first) .ensures) ∙ (c .before .r) .given .1)
+    rw (judged-then (firstChecks (a .latest) (a .date) (a .t) (a .there) (a .k)) (lastChecks (a .date) (a .t) (a .k)) refl, sym ((c .before .before .before .judge-first) .ensures) ∙ (c .before .r) .given .1)
 
--- src/verdicts.rt:164:1
 returns-2 : tie.Need-returns-2
 returns-2 c =
     let a = c .before .before .before .before .args in
-    c .judge-last .ensures ∙ rw (judged-then (firstChecks (a .latest) (a .date) (a .t) (a .found) (a .k)) (lastChecks (a .date) (a .t) (a .k)) refl, sym ((c .before .before .before .judge-first) .ensures) ∙ (c .before .enum-told) .given .1)
+    c .judge-last .ensures ∙ rw (judged-then (firstChecks (a .latest) (a .date) (a .t) (a .there) (a .k)) (lastChecks (a .date) (a .t) (a .k)) refl, sym ((c .before .before .before .judge-first) .ensures) ∙ (c .before .enum-told) .given .1)
 
 pub judge-spec : {M : Type 1} → statement M
 judge-spec =
