@@ -66,8 +66,8 @@ fn read_line(line: &[u8]) -> Option<Fields> {
     ])
 }
 
-/// Blanks, then digits to the right edge, at least one; no zero leads but a
-/// single 0.
+/// A number at the right edge of its columns, with blanks alone before it; 0 is
+/// the one number that begins with a zero.
 fn read_field(columns: &[u8]) -> Option<i64> {
     let blanks = columns.iter().take_while(|&&byte| byte == b' ').count();
     let digits = &columns[blanks..];
@@ -517,8 +517,8 @@ impl Ledger {
     }
 }
 
-/// A one-off takes OOFF only; a recurrent mandate takes FRST if FRST is due,
-/// else RCUR or FNAL.
+/// Whether the mandate may be collected on by this code: OOFF is for one-offs,
+/// FRST for recurrent ones while it is due, RCUR and FNAL once it is not.
 fn takes(mandate: &Mandate, sequence: Sequence) -> bool {
     match sequence {
         Sequence::Ooff => mandate.one_off,

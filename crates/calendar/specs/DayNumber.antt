@@ -1,4 +1,4 @@
--- Day arithmetic. Document 01, "Calendar": the twelve counts of days before each month, and the leap rule.
+-- Day arithmetic. Document 01, "Calendar": twelve counts, each of the days before a month, with the leap rule.
 -- Day 0 is 1 January 2000. That these conversions are right is `Conversions` of specs/Promises, which needs no look at them.
 -- Assumes nothing.
 use Prim.Native.Nat.{ℕ, _+_, _-_, _*_, _/_}
@@ -14,7 +14,7 @@ use Rattle.calendar.specs.declared.DateAnswer.the-variants.{Date, NoDate
 
 -- ---- from a date to its day number
 
--- the twelve counts of days before each month, in a year without a leap day
+-- the days before each of the twelve months, in a year without a leap day
 abbrev pub counts : List ℕ
 counts = 0 ∷ 31 ∷ 59 ∷ 90 ∷ 120 ∷ 151 ∷ 181 ∷ 212 ∷ 243 ∷ 273 ∷ 304 ∷ 334 ∷ []
 

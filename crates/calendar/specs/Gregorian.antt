@@ -1,4 +1,4 @@
--- Dates. Document 01, "Calendar": a date is YYYYMMDD, a real Gregorian day; those of events and rows have a range.
+-- Dates. Document 01, "Calendar": YYYYMMDD, a day that the Gregorian calendar has; those of events and rows have a range.
 -- The calendar itself covers the years of the Easter table, so that what is counted from such a date lies in it too.
 -- Assumes nothing.
 use Prim.Native.Nat.{ℕ, _+_, _*_, _/_, _%_}
@@ -56,7 +56,7 @@ isDate x =
     ∷ leb (dayOfMonth x) (monthLength (leapDay (year x)) (month x))
     ∷ [])
 
--- ---- dates in events and rows
+-- ---- dates of events and rows
 
 abbrev pub firstDate : ℕ
 firstDate = 20100101

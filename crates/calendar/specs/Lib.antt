@@ -1,5 +1,5 @@
 -- Document 01, "Calendar", in definitions; read in this order.
-pub mod Gregorian  -- a date, the leap rule, the range of the dates in events and rows
+pub mod Gregorian  -- a date, the leap rule, the range of the dates of events and rows
 pub mod DayNumber  -- the twelve counts; a date's day number and back
 pub mod Easter  -- the computus
 pub mod Target  -- business days, and the first, the next and the last one

@@ -1,5 +1,5 @@
--- Periods. Document 01, "Calendar": n business days after D, n months after D, and calendar days.
--- A count of calendar days and one of business days meet only in a `Period`, whose end the calendar works out.
+-- Periods. Document 01, "Calendar": business days, months and calendar days after a date.
+-- Counts of calendar days and of business days meet only in a `Period`, whose end the calendar works out.
 -- Assumes nothing.
 use mathlib.Core.Bool.{Bool, false, cond, _&&_}
 use Prim.Native.Nat.{ℕ, _+_, _-_, _*_, _/_, _%_, min}
@@ -27,7 +27,7 @@ daysBetween x y = cond (isDate x && isDate y && leb x y) (Days (record { 0 = day
 
 -- ---- business days
 
--- "n business days after D": the n-th business day strictly after D
+-- "n business days after D" ("Calendar"): the first that counts is the day after D or later
 unfoldable pub businessDaysAfter : BusinessDays → ℕ → DateAnswer
 businessDaysAfter n x = cond (isDate x) (dateOf (openAfter (n .0) (dayNumber x))) NoDate
 
@@ -37,11 +37,11 @@ businessDaysAfter n x = cond (isDate x) (dateOf (openAfter (n .0) (dayNumber x))
 unfoldable pub monthCount : ℕ → ℕ → ℕ
 monthCount n x = year x * 12 + (month x - 1) + n
 
--- the day d of the month that a count of months leads to, or that month's last day if there is none
+-- the day d of the month that a count of months leads to, or the last day of a month without such a day
 unfoldable pub dayOfMonthCount : ℕ → ℕ → ℕ
 dayOfMonthCount t d = dateOfParts (t / 12) (t % 12 + 1) (min d (monthLength (leapDay (t / 12)) (t % 12 + 1)))
 
--- "n months after D": the same day number n months on
+-- "n months after D" ("Calendar"): the day number stays where the month has it
 unfoldable pub monthsAfter : Months → ℕ → DateAnswer
 monthsAfter n x =
     cond (isDate x && ltb (monthCount (n .0) x) ((lastYear + 1) * 12))

@@ -1,4 +1,4 @@
--- Business days. Document 01, "Calendar": any day but Saturday, Sunday and the six TARGET closing days.
+-- Business days. Document 01, "Calendar": all but the weekend and the six TARGET closing days.
 -- Days go by their number here; a date stands for its day.
 -- Assumes nothing.
 use mathlib.Core.Path.{_≡_}
@@ -81,13 +81,13 @@ lastOpenBefore (suc n) = let earlier = lastOpenBefore n in cond (isOpen n) (Day 
 -- ---- the same for dates
 
 -- the day of an answer, as a date
-abbrev pub dated : DayAnswer → DateAnswer
-dated (Day n) = dateOf n
-dated NoDay = NoDate
+abbrev pub answerDate : DayAnswer → DateAnswer
+answerDate (Day n) = dateOf n
+answerDate NoDay = NoDate
 
 -- "Kept due is the first business day on or after the requested date"
 unfoldable pub firstBusinessDay : ℕ → DateAnswer
 firstBusinessDay x = cond (isDate x) (dateOf (firstOpen (dayNumber x))) NoDate
 
 unfoldable pub lastBusinessDayBefore : ℕ → DateAnswer
-lastBusinessDayBefore x = cond (isDate x) (dated (lastOpenBefore (dayNumber x))) NoDate
+lastBusinessDayBefore x = cond (isDate x) (answerDate (lastOpenBefore (dayNumber x))) NoDate

@@ -2,7 +2,7 @@
 ghost use mathlib.Core.Path.{_≡_};
 ghost use Prim.Native.Nat.{_-_, _<_};
 ghost use Rattle.calendar.specs.DayNumber.{yearStart, calendarDays, yearAt, inCalendar};
-ghost use Rattle.calendar.specs.Target.{weekday, businessDay, isOpen, firstOpen, lastOpenBefore, dated, firstBusinessDay, lastBusinessDayBefore};
+ghost use Rattle.calendar.specs.Target.{weekday, businessDay, isOpen, firstOpen, lastOpenBefore, answerDate, firstBusinessDay, lastBusinessDayBefore};
 use crate::DateAnswer;
 use crate::DayAnswer;
 use crate::easter;
@@ -86,7 +86,7 @@ fn last_open_before(n: u64) -> DayAnswer
 
 // The date of a day that was worked out.
 pub fn date_of_day(d: DayAnswer) -> DateAnswer
-    ensures { λ r. ⌜ r ≡ dated d ⌝ }
+    ensures { λ r. ⌜ r ≡ answerDate d ⌝ }
 {
     match d {
         DayAnswer::Day(n) => gregorian::date_of(n),

@@ -26,9 +26,9 @@ usedRow cells used (At row) = ltb row (existing cells used)
 usedRow cells used Nothing = false
 
 -- the row that was found; the first where none was
-abbrev pub rowIn : Found → ℕ
-rowIn (At row) = row
-rowIn Nothing = 0
+abbrev pub foundRow : Found → ℕ
+foundRow (At row) = row
+foundRow Nothing = 0
 
 -- ---- what is left
 

@@ -4,7 +4,7 @@ ghost use mathlib.Core.Path.{_≡_};
 ghost use mathlib.Core.Bool.{cond};
 ghost use Rattle.model.specs.declared.Answer.the-variants.{Refused as Refuses};
 ghost use Rattle.checking.specs.Order.{noneFails, firstFailing};
-ghost use Rattle.checking.specs.Calls.{isFound, usedRow, rowIn, datedHeader};
+ghost use Rattle.checking.specs.Calls.{isFound, usedRow, foundRow, datedHeader};
 
 pub mod actions;
 
@@ -116,8 +116,8 @@ pub fn is_used(found: Found, cells: &[u64], used: usize) -> bool
 }
 
 // The row that was found; the first where none was.
-pub fn row_in(found: Found) -> usize
-    ensures { λ r. ⌜ r ≡ rowIn found ⌝ }
+pub fn found_row(found: Found) -> usize
+    ensures { λ r. ⌜ r ≡ foundRow found ⌝ }
 {
     match found {
         Found::At(row) => row,

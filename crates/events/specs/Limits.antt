@@ -138,23 +138,23 @@ rowFits r e =
     ∷ [])
 
 -- a code that the kind does not have has no row
-abbrev pub answerFits : RowAnswer → Event → Bool
-answerFits NoRow e = false
-answerFits (Found r) e = rowFits r e
+abbrev pub rowAnswerFits : RowAnswer → Event → Bool
+rowAnswerFits NoRow e = false
+rowAnswerFits (Found r) e = rowFits r e
 
 unfoldable pub fieldsFit : Event → Bool
-fieldsFit e = answerFits (rowOf (e .kind) (e .code)) e
+fieldsFit e = rowAnswerFits (rowOf (e .kind) (e .code)) e
 
 -- in checking order
-abbrev pub checks : Event → List (Check Checked)
-checks e =
+abbrev pub limitChecks : Event → List (Check Checked)
+limitChecks e =
     check (within kinds (e .kind)) (Refused UnknownKind)  -- 3
     ∷ check (inRange (e .date)) (Refused BadDate)  -- 4
     ∷ check (fieldsFit e) (Refused BadField)  -- 5
     ∷ []
 
 unfoldable pub checked : Event → Checked
-checked e = judged (checks e) Within
+checked e = judged (limitChecks e) Within
 
 -- ---- the number of an answer: 0, or the refusal's
 

@@ -19,8 +19,8 @@ use Rattle.tables.specs.Ledger.{Ledger, added}
 
 -- ---- limits of one value
 
-abbrev pub within : ℕ → ℕ → ℕ → Bool
-within low high x = leb low x && leb x high
+abbrev pub isFromTo : ℕ → ℕ → ℕ → Bool
+isFromTo low high x = leb low x && leb x high
 
 -- a date in range, or 0 for none
 abbrev pub noneOrDate : ℕ → Bool
@@ -104,16 +104,16 @@ rowsFit test cells used = allFrom (rowFit test cells) 0 used
 -- the number and the parties, in either table
 abbrev pub namedTests : List ℕ → ℕ → ℕ → ℕ → List Bool
 namedTests creditors number creditor debtor =
-    within 1 numberLimit number
-    ∷ within 1 creditorCount creditor
+    isFromTo 1 numberLimit number
+    ∷ isFromTo 1 creditorCount creditor
     ∷ added creditors creditor  -- who exists
-    ∷ within 1 debtorCount debtor
+    ∷ isFromTo 1 debtorCount debtor
     ∷ []
 
 abbrev pub mandateTests : List ℕ → List ℕ → List Bool
 mandateTests creditors fields =
     namedTests creditors (getD fields MandateColumn.number 0) (getD fields MandateColumn.creditor 0) (getD fields MandateColumn.debtor 0)
-    ++ (within 1 bankCount (getD fields MandateColumn.bank 0)  -- the debtor's
+    ++ (isFromTo 1 bankCount (getD fields MandateColumn.bank 0)  -- the debtor's
     ∷ inRange (getD fields MandateColumn.signed 0)
     ∷ leb (getD fields MandateColumn.code 0) 1  -- recurrent or one-off
     ∷ leb (getD fields MandateColumn.standing 0) 2  -- live, closed or cancelled
@@ -131,9 +131,9 @@ dayFit latest tag day = leb tag 1 || (inRange day && leb day latest)
 abbrev pub collectionTests : ℕ → List ℕ → List ℕ → List Bool
 collectionTests latest creditors fields =
     namedTests creditors (getD fields CollectionColumn.number 0) (getD fields CollectionColumn.creditor 0) (getD fields CollectionColumn.debtor 0)
-    ++ (within 1 bankCount (getD fields CollectionColumn.cbank 0)
-    ∷ within 1 bankCount (getD fields CollectionColumn.dbank 0)
-    ∷ within 1 amountLimit (getD fields CollectionColumn.amount 0)  -- cents
+    ++ (isFromTo 1 bankCount (getD fields CollectionColumn.cbank 0)
+    ∷ isFromTo 1 bankCount (getD fields CollectionColumn.dbank 0)
+    ∷ isFromTo 1 amountLimit (getD fields CollectionColumn.amount 0)  -- cents
     ∷ inRange (getD fields CollectionColumn.due 0)  -- the kept one
     ∷ leb (getD fields CollectionColumn.state 0) 5  -- the six states
     ∷ dayFit latest (getD fields CollectionColumn.state 0) (getD fields CollectionColumn.day 0)

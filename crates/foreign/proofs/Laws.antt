@@ -1,3 +1,4 @@
 -- Laws for the proofs of this crate.
-pub mod Cells  -- cells that are as many as they should be
-pub mod Text  -- the call for a text of events
+pub mod Books  -- the calls that change the book
+pub mod Queries  -- the position query
+pub mod Texts  -- a text of events, its end, the listing

@@ -1,1 +1,1 @@
-pub mod Laws  -- of the lent cells and the call for a text
+pub mod Laws  -- of the calls

@@ -1,6 +1,7 @@
 -- The program's input. Nothing says which bytes `read` gives; what is said is that there are bytes of which the run of
 -- crates/run/specs/Run makes what the program hands on. Assumes nothing.
 use mathlib.Core.Path.{_≡_}
+use mathlib.Core.Bool.{Bool}
 use mathlib.Core.List.{List}
 use Prim.Native.Nat.{ℕ, _*_, _≤_}
 use lib.ListN.{length, take}
@@ -8,14 +9,15 @@ use Rattle.digits.specs.Field.{pasted}
 use Rattle.tables.specs.Ledger.{Ledger}
 use Rattle.report.specs.Layout.{answerLength}
 use Rattle.run.specs.Run.{Run, runAt, takeText}
-use Rattle.text.specs.Text.{pieceRun, pieceTold}
-use Rattle.ledger.specs.declared.Progress.{Progress}
+use Rattle.listing.specs.Past.{linesPast, goesPast}
+use Rattle.text.specs.Text.{pieceRun, pieceOutput}
+use Rattle.ledger.specs.declared.Stage.{Stage}
 
--- ---- a read: bytes were put behind the first `begun`, which are as they were; now there are `filled`
+-- ---- a read: bytes were put behind the first `partial`, which are as they were; now there are `filled`
 
-pub record Behind (begun : ℕ) (text : List ℕ) (filled : ℕ) (text' : List ℕ) : Type 0 where
-  pub front : take begun text' ≡ take begun text
-  pub onward : begun ≤ filled
+pub record Behind (partial : ℕ) (text : List ℕ) (filled : ℕ) (text' : List ℕ) : Type 0 where
+  pub front : take partial text' ≡ take partial text
+  pub onward : partial ≤ filled
   pub inside : filled ≤ length text'
 
 -- ---- a turn: the first `filled` bytes of the text are given to the run
@@ -25,18 +27,23 @@ pub record Given (filled : ℕ) (text out : List ℕ) : Type 0 where
   pub inside : filled ≤ length text
   pub room : answerLength * length text ≤ length out
 
--- the run handed on, its line that has begun at the front of the text, and the answers to be told
-pub record Turned (l : Ledger) (p : Progress) (filled : ℕ) (text out : List ℕ) (r : Progress) (l' : Ledger) (text' out' : List ℕ) : Type 0 where
-  pub run-is : runAt l' (r .lines) (take (r .begun) text') ≡ pieceRun l (p .lines) filled text
-  pub begun-is : r .begun ≡ length (pieceRun l (p .lines) filled text .begun)
-  pub text-is : text' ≡ pasted 0 (pieceRun l (p .lines) filled text .begun) text
-  pub told-is : r .told ≡ length (pieceTold l (p .lines) filled text)
-  pub out-is : out' ≡ pasted 0 (pieceTold l (p .lines) filled text) out
-  pub heard-is : r .heard ≡ p .heard
+-- whether the bytes given, where n lines were answered before, go past the last that is answered; they take the run to s
+abbrev pub passes : ℕ → List ℕ → Run → Bool
+passes n given s = goesPast (linesPast n given) (s .lines) (length (s .partial))
+
+-- the run handed on, its partial line at the front of the text, and the answers to be written
+pub record Turned (l : Ledger) (p : Stage) (filled : ℕ) (text out : List ℕ) (r : Stage) (l' : Ledger) (text' out' : List ℕ) : Type 0 where
+  pub run-is : runAt l' (r .lines) (take (r .partial) text') ≡ pieceRun l (p .lines) filled text
+  pub partial-is : r .partial ≡ length (pieceRun l (p .lines) filled text .partial)
+  pub text-is : text' ≡ pasted 0 (pieceRun l (p .lines) filled text .partial) text
+  pub written-is : r .written ≡ length (pieceOutput l (p .lines) filled text)
+  pub out-is : out' ≡ pasted 0 (pieceOutput l (p .lines) filled text) out
+  pub past-is : r .beyond ≡ passes (p .lines) (take filled text) (pieceRun l (p .lines) filled text)
 
 -- ---- the whole input: some bytes take the run from the start to what is handed on
 
-pub record Taken (start : Run) (l : Ledger) (lines begun : ℕ) (text : List ℕ) : Type 0 where
+pub record InputTaken (start : Run) (l : Ledger) (lines partial : ℕ) (past : Bool) (text : List ℕ) : Type 0 where
   pub input : List ℕ
-  pub run-is : runAt l lines (take begun text) ≡ takeText start input
-  pub inside : begun ≤ length text
+  pub run-is : runAt l lines (take partial text) ≡ takeText start input
+  pub inside : partial ≤ length text
+  pub past-is : past ≡ passes 0 input (takeText start input)

@@ -13,7 +13,7 @@ use Rattle.opening.specs.Opening.{opened}
 use Rattle.model.specs.Journal.{Journal, journal}
 use Rattle.report.specs.Layout.{answerLength}
 use Rattle.listing.specs.Listing.{listingRoom}
-use Rattle.run.specs.Run.{runAt, takeText, endTold, toldEnd, toldPositions, toldJournal}
+use Rattle.run.specs.Run.{runAt, takeText, endBytes, endOutput, positionsOutput, journalOutput}
 use Rattle.run.specs.Lines.{answeredLines, answersOf, historyOf}
 
 -- ---- the start
@@ -39,13 +39,13 @@ pub record LastRoom (l : Ledger) (out : List ℕ) : Type 0 where
   pub fits : fit l ≡ true
   pub room : answerLength + listingRoom ≤ length out
 
--- what is told where the input ends: the answer to a line that has begun, and the positions
-abbrev pub toldLast : Ledger → ℕ → ℕ → List ℕ
-toldLast l lines begun = endTold lines begun ++ toldPositions l
+-- what is written where the input ends: the answer to a partial line, and the positions
+abbrev pub lastOutput : Ledger → ℕ → ℕ → List ℕ
+lastOutput l lines partial = endBytes lines partial ++ positionsOutput l
 
-pub record Finished (l : Ledger) (lines begun : ℕ) (out : List ℕ) (bytes : ℕ) (out' : List ℕ) : Type 0 where
-  pub bytes-are : bytes ≡ length (toldLast l lines begun)
-  pub out-is : out' ≡ pasted 0 (toldLast l lines begun) out
+pub record Finished (l : Ledger) (lines partial : ℕ) (out : List ℕ) (bytes : ℕ) (out' : List ℕ) : Type 0 where
+  pub bytes-are : bytes ≡ length (lastOutput l lines partial)
+  pub out-is : out' ≡ pasted 0 (lastOutput l lines partial) out
 
 -- the journal of a text, by its lines and the answers to them
 abbrev pub journalOf : Ledger → List (List ℕ) → Journal
@@ -54,4 +54,4 @@ journalOf l lines = journal (historyOf lines (answersOf l lines))
 -- there is an input, and the first bytes of the buffer answer what stands behind its last line and show its journal's figures
 pub record Shown (l : Ledger) (bytes : ℕ) (out : List ℕ) : Type 0 where
   pub input : List ℕ
-  pub last : take bytes out ≡ toldEnd (takeText (runAt l 0 []) input) ++ toldJournal (journalOf l (answeredLines 0 input))
+  pub last : take bytes out ≡ endOutput (takeText (runAt l 0 []) input) ++ journalOutput (journalOf l (answeredLines 0 input))

@@ -2,22 +2,26 @@
 // answer for each line, then the positions and the total compensation. It reads and writes; what the bytes mean, what is
 // answered to them and how that is written is in the libraries, proved.
 ghost use mathlib.Core.Path.{_≡_};
-ghost use mathlib.Core.Bool.{true, false, _&&_};
+ghost use mathlib.Core.Bool.{true, false, not, _&&_};
 ghost use mathlib.Core.List.{[]};
 ghost use Prim.Native.Nat.{_*_, _≤_};
 ghost use lib.Dec.{ltb};
 ghost use lib.ListN.{length};
 ghost use Rattle.tables.specs.Ledger.{ledger};
-ghost use Rattle.report.specs.Layout.{lastNumber, answerLength};
+ghost use Rattle.report.specs.Layout.{answerLength};
 ghost use Rattle.run.specs.Run.{runAt};
-ghost use Rattle.ledger.specs.Input.{Behind, Given, Turned, Taken};
+ghost use Rattle.ledger.specs.Input.{Behind, Given, Turned, InputTaken};
 ghost use Rattle.ledger.specs.Program.{Begins, LastRoom, Finished, Shown};
-use libc::STDIN_FILENO;
-use libc::STDOUT_FILENO;
+use libc::STDERR_FILENO;
 use listing::ending::end_text;
 use listing::listing::list_positions;
+use listing::past::goes_past;
+use listing::past::lines_past;
 use opening::OpenAnswer;
 use opening::open_ledger;
+use streams::Got;
+use streams::read_behind;
+use streams::write_whole;
 use tables::Header;
 use tables::rows::STRIDE;
 use text::text::take_text;
@@ -27,51 +31,65 @@ const MANDATES: usize = 128;
 
 const COLLECTIONS: usize = 256;
 
-// The most lines that are answered.
-const LINES: u64 = 999_999;
-
 // The bytes of the text and of the buffer, which has room for an answer to each byte of the text. The text is large, since
 // the memory is tested once for a piece.
 const TEXT: usize = 262_144;
 
 const OUT: usize = 2_621_440;
 
-// How far a run is: the header of the ledger, the lines answered, the bytes at the front of the text that begin a line,
-// the bytes of answers to be told, and whether what is told still finds a reader.
-struct Progress {
+// How far a run is: the header of the ledger, the lines answered, the bytes of the partial line at the front of the text,
+// the bytes of answers to be written, whether there is input beyond the last line that is answered, and whether the run is
+// whole: no read and no write has failed.
+struct Stage {
     header: Header,
     lines: u64,
-    begun: usize,
-    told: usize,
-    heard: bool,
+    partial: usize,
+    written: usize,
+    beyond: bool,
+    whole: bool,
 }
 
-// Reads once behind the bytes that begin a line, and gives the bytes of the text then; no more than before at the end.
-fn read_behind(text: &mut [u8], begun: usize) -> usize
-    requires { ⌜ begun ≤ length (now text) ⌝ }
-    ensures { λ r. ⌜ Behind begun (now (text .entry)) r (now (text .exit)) ⌝ }
+// The bytes of the text after a read, and whether it did not fail.
+struct Filled {
+    bytes: usize,
+    whole: bool,
+}
+
+// Reads once behind the partial line; no more bytes than before are there at the end of the input and where the read failed.
+fn fill(text: &mut [u8], partial: usize) -> Filled
+    requires { ⌜ partial ≤ length (now text) ⌝ }
+    ensures { λ r. ⌜ Behind partial (now (text .entry)) (r .bytes) (now (text .exit)) ⌝ }
 {
-    if begun >= text.len() {
-        return begun;
+    match read_behind(text, partial) {
+        Got::Bytes(n) => Filled {
+            bytes: partial + n,
+            whole: true,
+        },
+        Got::End => Filled {
+            bytes: partial,
+            whole: true,
+        },
+        Got::Failed => Filled {
+            bytes: partial,
+            whole: false,
+        },
     }
-    let got = libc::read(STDIN_FILENO, &mut text[begun..]);
-    begun + io::count(got, &text[begun..])
 }
 
-// Writes the first bytes of a buffer if somebody listens, and says whether somebody still does.
-fn tell(heard: bool, out: &[u8], bytes: usize) -> bool
+// Writes the first bytes of a buffer if the run is whole, and says whether it still is.
+fn send(whole: bool, out: &[u8], bytes: usize) -> bool
     requires { ⌜ bytes ≤ length (now out) ⌝ }
-    ensures { λ r. ⌜ (heard ≡ false → r ≡ false) ⌝ }
+    ensures { λ r. ⌜ (whole ≡ false → r ≡ false) ⌝ }
 {
-    if !heard {
+    if !whole {
         return false;
     }
-    io::write_all(STDOUT_FILENO, &out[..bytes])
+    write_whole(&out[..bytes])
 }
 
 // Answers the lines that have ended in the first `filled` bytes of the text.
 fn take_piece(
-    p: Progress,
+    p: Stage,
     filled: usize,
     text: &mut [u8],
     out: &mut [u8],
@@ -81,12 +99,13 @@ fn take_piece(
     creditor_positions: &mut [i64],
     debtor_positions: &mut [i64],
     bank_positions: &mut [i64],
-) -> Progress
+) -> Stage
     requires { ⌜ Given filled (now text) (now out) ⌝ }
     ensures { λ r. ⌜ Turned (ledger (p .header) (now (mandates .entry)) (now (collections .entry)) (now (creditors .entry)) (now («creditor_positions» .entry)) (now («debtor_positions» .entry)) (now («bank_positions» .entry))) p filled (now (text .entry)) (now (out .entry)) r
         (ledger (r .header) (now (mandates .exit)) (now (collections .exit)) (now (creditors .exit)) (now («creditor_positions» .exit)) (now («debtor_positions» .exit)) (now («bank_positions» .exit))) (now (text .exit)) (now (out .exit)) ⌝ }
 {
     let header = p.header;
+    let over = lines_past(p.lines, &text[..filled]);
     let piece = take_text(
         header,
         p.lines,
@@ -101,24 +120,25 @@ fn take_piece(
         bank_positions,
     );
     let after = piece.header;
-    Progress {
+    Stage {
         header: after,
         lines: piece.lines,
-        begun: piece.begun,
-        told: piece.told,
-        heard: p.heard,
+        partial: piece.partial,
+        written: piece.written,
+        beyond: goes_past(over, piece.lines, piece.partial),
+        whole: p.whole,
     }
 }
 
-// Whether there may be more input to answer: a read that gave nothing was the last, and so was the last line.
-fn goes_on(begun: usize, filled: usize, lines: u64) -> bool
-    ensures { λ r. ⌜ r ≡ ltb begun filled && ltb lines lastNumber ⌝ }
+// Whether there may be more input to answer: a read that gave nothing was the last, and so is one past the last line.
+fn goes_on(partial: usize, filled: usize, beyond: bool, whole: bool) -> bool
+    ensures { λ r. ⌜ r ≡ (ltb partial filled && not beyond) && whole ⌝ }
 {
-    (begun < filled) & (lines < LINES)
+    (partial < filled) & !beyond & whole
 }
 
-// The whole input, piece by piece, until it ends, the last line is answered or nobody listens. A proved loop has to
-// end, and nothing says that the input does: so the loop counts its turns down from a number that no run uses up.
+// The whole input, piece by piece, until it ends, goes past the last line that is answered, or a stream fails. A proved loop
+// has to end, and nothing says that the input does: so the loop counts its turns down from a number that no run uses up.
 fn take_input(
     header: Header,
     text: &mut [u8],
@@ -129,24 +149,26 @@ fn take_input(
     creditor_positions: &mut [i64],
     debtor_positions: &mut [i64],
     bank_positions: &mut [i64],
-) -> Progress
+) -> Stage
     requires { ⌜ answerLength * length (now text) ≤ length (now out) ⌝ }
-    ensures { λ r. ⌜ Taken (runAt (ledger header (now (mandates .entry)) (now (collections .entry)) (now (creditors .entry)) (now («creditor_positions» .entry)) (now («debtor_positions» .entry)) (now («bank_positions» .entry))) 0 [])
-        (ledger (r .header) (now (mandates .exit)) (now (collections .exit)) (now (creditors .exit)) (now («creditor_positions» .exit)) (now («debtor_positions» .exit)) (now («bank_positions» .exit))) (r .lines) (r .begun) (now (text .exit)) ⌝ }
+    ensures { λ r. ⌜ InputTaken (runAt (ledger header (now (mandates .entry)) (now (collections .entry)) (now (creditors .entry)) (now («creditor_positions» .entry)) (now («debtor_positions» .entry)) (now («bank_positions» .entry))) 0 [])
+        (ledger (r .header) (now (mandates .exit)) (now (collections .exit)) (now (creditors .exit)) (now («creditor_positions» .exit)) (now («debtor_positions» .exit)) (now («bank_positions» .exit))) (r .lines) (r .partial) (r .beyond) (now (text .exit)) ⌝ }
 {
-    let mut p = Progress {
+    let mut p = Stage {
         header: header,
         lines: 0,
-        begun: 0,
-        told: 0,
-        heard: true,
+        partial: 0,
+        written: 0,
+        beyond: false,
+        whole: true,
     };
     let mut more = true;
     let mut turns = u64::MAX;
-    while (0 < turns) & more & p.heard {
+    while (0 < turns) & more {
         turns -= 1;
-        let begun = p.begun;
-        let filled = read_behind(text, begun);
+        let partial = p.partial;
+        let read = fill(text, partial);
+        let filled = read.bytes;
         p = take_piece(
             p,
             filled,
@@ -159,15 +181,21 @@ fn take_input(
             debtor_positions,
             bank_positions,
         );
-        p.heard = tell(p.heard, out, p.told);
-        more = goes_on(begun, filled, p.lines);
+        p.whole = send(read.whole, out, p.written);
+        more = goes_on(partial, filled, p.beyond, p.whole);
     }
     p
 }
 
-// Answers a line that has begun where the input ends, and lists the positions behind; gives the bytes of both.
+// Says that lines past the last that is answered were not read.
+fn say_past() {
+    io::write_all(STDERR_FILENO, b"ledger: lines past 999999 were not read\n");
+}
+
+// Answers a partial line where the input ends, lists the positions behind, and writes both if the run is whole; says it if
+// there was more input. Gives the bytes of both.
 fn finish(
-    p: Progress,
+    p: Stage,
     out: &mut [u8],
     mandates: &[u64],
     collections: &[u64],
@@ -177,11 +205,11 @@ fn finish(
     bank_positions: &[i64],
 ) -> usize
     requires { ⌜ LastRoom (ledger (p .header) (now mandates) (now collections) (now creditors) (now «creditor_positions») (now «debtor_positions») (now «bank_positions»)) (now out) ⌝ }
-    ensures { λ r. ⌜ Finished (ledger (p .header) (now (mandates .entry)) (now (collections .entry)) (now (creditors .entry)) (now («creditor_positions» .entry)) (now («debtor_positions» .entry)) (now («bank_positions» .entry))) (p .lines) (p .begun) (now (out .entry)) r (now (out .exit)) ⌝ }
+    ensures { λ r. ⌜ Finished (ledger (p .header) (now (mandates .entry)) (now (collections .entry)) (now (creditors .entry)) (now («creditor_positions» .entry)) (now («debtor_positions» .entry)) (now («bank_positions» .entry))) (p .lines) (p .partial) (now (out .entry)) r (now (out .exit)) ⌝ }
 {
     let header = p.header;
-    let end = end_text(p.lines, p.begun, out);
-    let told = end.told;
+    let end = end_text(p.lines, p.partial, out);
+    let written = end.written;
     let listing = list_positions(
         header,
         mandates,
@@ -190,14 +218,17 @@ fn finish(
         creditor_positions,
         debtor_positions,
         bank_positions,
-        &mut out[told..],
+        &mut out[written..],
     );
-    let bytes = told + listing.bytes;
-    tell(p.heard, out, bytes);
+    let bytes = written + listing.bytes;
+    if send(p.whole, out, bytes) & p.beyond {
+        say_past();
+    }
     bytes
 }
 
-// The lines of the input, and then the positions, by a text and a buffer for answers; gives the bytes told last.
+// The lines of the input, and then the positions, by a text and a buffer for answers; gives the last bytes that are to be
+// written, and are where the run is whole.
 fn run_by(
     header: Header,
     text: &mut [u8; TEXT],

@@ -19,7 +19,7 @@ use Rattle.lines.specs.declared.line.LineAnswer.the-variants as lines
 use Rattle.lines.specs.declared.line.WriteAnswer.{WriteAnswer}
 use Rattle.lines.specs.declared.line.WriteAnswer.the-variants as writes
 use Rattle.digits.specs.Field.{fieldBytes, readField}
-use Rattle.events.specs.Limits.{checks, checked, limitNumbers, limitNumber}
+use Rattle.events.specs.Limits.{limitChecks, checked, limitNumbers, limitNumber}
 
 -- ---- the columns
 
@@ -131,7 +131,7 @@ writtenOf (Refused r) = writes.Refused r
 
 -- 2, then 3, 4 and 5
 unfoldable pub writeAnswer : Event → List ℕ → WriteAnswer
-writeAnswer e out = writtenOf (judged (check (leb lineLength (length out)) (Refused UnfitMemory) ∷ checks e) Within)
+writeAnswer e out = writtenOf (judged (check (leb lineLength (length out)) (Refused UnfitMemory) ∷ limitChecks e) Within)
 
 abbrev pub bytesBy : WriteAnswer → Event → List ℕ → List ℕ
 bytesBy writes.Written e out = lineOf e ++ drop lineLength out

@@ -36,7 +36,7 @@ WritesWhatWasRead =
 abbrev pub OnlyWithinIsTaken : Type 0
 OnlyWithinIsTaken = (l : List ℕ) (e : Event) → readLine l ≡ Taken e → checked e ≡ Within
 
--- each event within its limits has a line
+-- there is a line for each event that is within its limits
 abbrev pub EveryEventHasALine : Type 0
 EveryEventHasALine = (e : Event) → checked e ≡ Within → readLine (lineOf e) ≡ Taken e
 

@@ -29,14 +29,15 @@ pub enum WriteAnswer {
 }
 
 // The columns of the nine fields, and the line with the byte that ends it.
-const COLUMNS: usize = 74;
+pub const COLUMNS: usize = 74;
 
 const LINE: usize = 75;
 
 // The fields of an event.
 pub const FIELDS: usize = 9;
 
-const LINE_END: u8 = 10;
+// The byte that ends a line.
+pub const LINE_END: u8 = 10;
 
 // The last five fields of a line, behind the first four. They have a function of their own because the compiler takes what comes
 // after many tests for rare, and does not inline it. The cells are stored from the values that were read: of the event no copy is

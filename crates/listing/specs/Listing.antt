@@ -14,7 +14,7 @@ use Rattle.tables.specs.Ledger.{Ledger}
 use Rattle.fitness.specs.Fitness.{fit}
 use Rattle.model.specs.Step.{answerNumber}
 use Rattle.report.specs.Layout.{answerLength, positionLength}
-use Rattle.run.specs.Run.{fitAnswer, fitNumber, endLines, endTold, toldFigures, toldPositions}
+use Rattle.run.specs.Run.{fitAnswer, fitNumber, endLines, endBytes, figuresOutput, positionsOutput}
 use Rattle.listing.specs.declared.ending.Ending.{Ending}
 use Rattle.listing.specs.declared.listing.Listing.{Listing}
 
@@ -24,12 +24,12 @@ use Rattle.listing.specs.declared.listing.Listing.{Listing}
 abbrev pub endFits : List ℕ → Bool
 endFits out = leb answerLength (length out)
 
-pub record EndTaken (lines begun : ℕ) (out : List ℕ) (r : Ending) (out' : List ℕ) : Type 0 where
+pub record EndTaken (lines partial : ℕ) (out : List ℕ) (r : Ending) (out' : List ℕ) : Type 0 where
   pub answer-is : r .answer ≡ fitAnswer (endFits out)
   pub number-is : answerNumber (r .answer) ≡ fitNumber (endFits out)
-  pub lines-are : r .lines ≡ cond (endFits out) (endLines lines begun) lines
-  pub told-is : r .told ≡ cond (endFits out) (length (endTold lines begun)) 0
-  pub out-is : out' ≡ cond (endFits out) (pasted 0 (endTold lines begun) out) out
+  pub lines-are : r .lines ≡ cond (endFits out) (endLines lines partial) lines
+  pub written-is : r .written ≡ cond (endFits out) (length (endBytes lines partial)) 0
+  pub out-is : out' ≡ cond (endFits out) (pasted 0 (endBytes lines partial) out) out
 
 -- ---- the listing
 
@@ -45,9 +45,9 @@ listed l out = fit l && leb listingRoom (length out)
 pub record Listed (l : Ledger) (out : List ℕ) (r : Listing) (out' : List ℕ) : Type 0 where
   pub answer-is : r .answer ≡ fitAnswer (listed l out)
   pub number-is : answerNumber (r .answer) ≡ fitNumber (listed l out)
-  pub bytes-are : r .bytes ≡ cond (listed l out) (length (toldPositions l)) 0
-  pub out-is : out' ≡ cond (listed l out) (pasted 0 (toldPositions l) out) out
+  pub bytes-are : r .bytes ≡ cond (listed l out) (length (positionsOutput l)) 0
+  pub out-is : out' ≡ cond (listed l out) (pasted 0 (positionsOutput l) out) out
 
 -- for private contracts: the lines of one table of positions, from number 1 to n; those of a kind are the lines of its table
-abbrev pub toldTable : ℕ → List ℤ → ℕ → List ℕ
-toldTable kind positions n = toldFigures kind (position positions) n
+abbrev pub tableOutput : ℕ → List ℤ → ℕ → List ℕ
+tableOutput kind positions n = figuresOutput kind (position positions) n

@@ -10,26 +10,26 @@ use report::layout::answer_line;
 // The lines answered, the bytes written, and the answer to the call.
 pub struct Ending {
     pub lines: u64,
-    pub told: usize,
+    pub written: usize,
     pub answer: Answer,
 }
 
-// Answers a line that has begun where the input ends, by the lines answered so far and the number of its bytes. A buffer
+// Answers a partial line where the input ends, by the lines answered so far and the number of its bytes. A buffer
 // without room for an answer is refused, and nothing is written.
-pub fn end_text(lines: u64, begun: usize, out: &mut [u8]) -> Ending
-    ensures { λ r. ⌜ EndTaken lines begun (now (out .entry)) r (now (out .exit)) ⌝ }
+pub fn end_text(lines: u64, partial: usize, out: &mut [u8]) -> Ending
+    ensures { λ r. ⌜ EndTaken lines partial (now (out .entry)) r (now (out .exit)) ⌝ }
 {
     if out.len() < ANSWER {
         return Ending {
             lines: lines,
-            told: 0,
+            written: 0,
             answer: Answer::Refused(Refusal::UnfitMemory),
         };
     }
-    if !((lines < LAST_NUMBER) & (0 < begun)) {
+    if !((lines < LAST_NUMBER) & (0 < partial)) {
         return Ending {
             lines: lines,
-            told: 0,
+            written: 0,
             answer: Answer::Accepted,
         };
     }
@@ -37,7 +37,7 @@ pub fn end_text(lines: u64, begun: usize, out: &mut [u8]) -> Ending
     answer_line(out, 0, number, number_of(Refusal::BadLine));
     Ending {
         lines: number,
-        told: ANSWER,
+        written: ANSWER,
         answer: Answer::Accepted,
     }
 }

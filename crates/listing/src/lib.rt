@@ -2,3 +2,4 @@
 // listing of positions. Every public function answers for any input.
 pub mod ending;
 pub mod listing;
+pub mod past;

@@ -3,12 +3,12 @@ ghost use mathlib.Core.Path.{_≡_};
 ghost use mathlib.Core.Bool.{true};
 ghost use Prim.Native.Nat.{_+_, _*_, _≤_};
 ghost use lib.ListN.{length};
-ghost use Rattle.positions.specs.Positions.{positionLimit, Within};
+ghost use Rattle.positions.specs.Positions.{positionLimit, InLimit};
 ghost use Rattle.digits.specs.Field.{pasted};
 ghost use Rattle.tables.specs.Ledger.{ledger};
 ghost use Rattle.report.specs.Layout.{positionLength, widestKind, lastNumber, positionFits};
-ghost use Rattle.listing.specs.Listing.{toldTable, Listed};
-ghost use Rattle.run.specs.Run.{toldPosition};
+ghost use Rattle.listing.specs.Listing.{tableOutput, Listed};
+ghost use Rattle.run.specs.Run.{positionOutput};
 use common::BANKS;
 use common::CREDITORS;
 use common::DEBTORS;
@@ -31,8 +31,8 @@ const ROOM: usize = (CREDITORS + DEBTORS + BANKS + 1) as usize * POSITION;
 // Writes the line of a position that is not 0, and gives the place behind it.
 fn list_one(out: &mut [u8], at: usize, kind: u64, number: u64, cents: i64) -> usize
     requires { ⌜ positionFits at kind number cents (now out) ≡ true ⌝ }
-    ensures place { λ r. ⌜ r ≡ at + length (toldPosition kind number cents) ⌝ }
-    ensures bytes { λ _. ⌜ now (out .exit) ≡ pasted at (toldPosition kind number cents) (now (out .entry)) ⌝ }
+    ensures place { λ r. ⌜ r ≡ at + length (positionOutput kind number cents) ⌝ }
+    ensures bytes { λ _. ⌜ now (out .exit) ≡ pasted at (positionOutput kind number cents) (now (out .entry)) ⌝ }
 {
     if cents == 0 {
         return at;
@@ -43,9 +43,9 @@ fn list_one(out: &mut [u8], at: usize, kind: u64, number: u64, cents: i64) -> us
 
 // Writes the positions of a kind, from number 1 to the last of its table, and gives the place behind them.
 fn list_kind(out: &mut [u8], at: usize, kind: u64, positions: &[i64]) -> usize
-    requires { ⌜ (at + length (now positions) * positionLength ≤ length (now out)) × (kind ≤ widestKind) × (length (now positions) ≤ lastNumber) × Within positionLimit (now positions) ⌝ }
-    ensures place { λ r. ⌜ r ≡ at + length (toldTable kind (now (positions .entry)) (length (now (positions .entry)))) ⌝ }
-    ensures bytes { λ _. ⌜ now (out .exit) ≡ pasted at (toldTable kind (now (positions .entry)) (length (now (positions .entry)))) (now (out .entry)) ⌝ }
+    requires { ⌜ (at + length (now positions) * positionLength ≤ length (now out)) × (kind ≤ widestKind) × (length (now positions) ≤ lastNumber) × InLimit positionLimit (now positions) ⌝ }
+    ensures place { λ r. ⌜ r ≡ at + length (tableOutput kind (now (positions .entry)) (length (now (positions .entry)))) ⌝ }
+    ensures bytes { λ _. ⌜ now (out .exit) ≡ pasted at (tableOutput kind (now (positions .entry)) (length (now (positions .entry)))) (now (out .entry)) ⌝ }
 {
     let mut next = at;
     let mut i: usize = 0;

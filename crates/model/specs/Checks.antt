@@ -78,7 +78,7 @@ hasRow l (ChangeMandate n c) = true
 hasRow l (Collect p) = ltb (l .collectionsUsed) (rows (l .collections))
 hasRow l (Treat n t) = true
 
--- ---- 11: the mandate of an amend, cancel or collect is neither closed nor cancelled
+-- ---- 11: a mandate to be amended, cancelled or collected on is neither closed nor cancelled
 
 abbrev pub standsLive : Standing → Bool
 standsLive Live = true
@@ -94,7 +94,7 @@ isLive l (Treat n t) = true
 
 -- ---- 12, 13, 14: the sequence code, the time and the lapse of a collect
 
--- a one-off takes OOFF only; a recurrent mandate FRST if FRST is due, else RCUR or FNAL
+-- of a one-off OOFF alone; of a recurrent mandate FRST while that is due, and then RCUR or FNAL
 abbrev pub takes : Mandate → ℕ → Bool
 takes m code =
     cond (isRecurrent (m .code))

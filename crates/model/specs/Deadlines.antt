@@ -1,4 +1,4 @@
--- Document 01, "Ten events": the kept due, the last days from the settled day, the lapse of a mandate. What an
+-- Document 01, "Ten events": the kept due, the last days after a settle, the lapse of a mandate. What an
 -- error here is caught by is worded in specs/Promises and specs/Journal. Assumes nothing.
 use mathlib.Core.Bool.{Bool, cond, not, _&&_}
 use Prim.Native.Nat.{ℕ, _-_}
@@ -19,24 +19,24 @@ abbrev pub dateFound : DateAnswer → ℕ
 dateFound (Date x) = x
 dateFound NoDate = 0
 
--- the first business day on or after the requested date
+-- "Kept due is the first business day on or after the requested date" ("Ten events")
 unfoldable pub keptDue : ℕ → ℕ
 keptDue requested = dateFound (firstBusinessDay requested)
 
 -- ---- when a collect comes, refusal 13
 
--- the requested date is at most 14 calendar days after the event date
+-- it is requested for at most 14 calendar days ahead of the event date
 abbrev pub soonEnough : ℕ → ℕ → Bool
 soonEnough date requested = not (isAfter requested (daysAfter (record { 0 = 14 }) date))
 
--- the event date is not after the last business day before the kept due
+-- it is presented no later than on the last business day that precedes the kept due
 abbrev pub earlyEnough : ℕ → ℕ → Bool
 earlyEnough date requested = not (isAfter date (lastBusinessDayBefore (keptDue requested)))
 
 unfoldable pub timely : ℕ → ℕ → Bool
 timely date requested = soonEnough date requested && earlyEnough date requested
 
--- ---- last days, from the settled day
+-- ---- last days, by the settled day
 
 abbrev pub period : ℕ → ℕ → ℕ → Period
 period months days business =
@@ -70,16 +70,16 @@ lastDay way settled = periodEnd (periodOf core way) settled
 abbrev pub inTime : Way → ℕ → ℕ → Bool
 inTime way settled date = not (isAfter date (lastDay way settled))
 
--- calendar days from the settled day
+-- the calendar days since the settle
 abbrev pub daysSince : ℕ → ℕ → ℕ
 daysSince settled date = dayNumber date - dayNumber settled
 
 -- ---- lapse
 
--- 36 months after the kept due last presented, or after signing if there is none
+-- the end of 36 months that run from the kept due last presented or, where nothing was presented, from signing
 unfoldable pub lapseEnd : ℕ → ℕ → DateAnswer
 lapseEnd presented signed = monthsAfter (record { 0 = 36 }) (cond (eqb presented 0) signed presented)
 
--- the mandate is lapsed for a collect of this kept due
+-- a collect of this kept due comes after that end
 abbrev pub lapsedFor : ℕ → ℕ → ℕ → Bool
 lapsedFor due presented signed = isAfter due (lapseEnd presented signed)

@@ -128,7 +128,7 @@ presentedOn p m =
     remade m (m .creditor) (m .bank)
     (cond (closes (p .code)) Closed (m .standing)) (m .first && not (eqb (p .code) 0)) (keptDue (p .requested))
 
--- the parties and both banks as they are now
+-- with the parties and the two banks of this moment
 unfoldable pub newCollection : List ℕ → Presentation → Mandate → Collection
 newCollection creditors p m = record {
   number = p .collection;

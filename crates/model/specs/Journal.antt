@@ -104,7 +104,7 @@ withCollection j number k = record {
   compensation = j .compensation;
 }
 
--- adds to the figures of the parties and banks noted with the collection: the debtor's, the creditor's, the debtor bank's, the
+-- adds to the figures of those that the note of the collection names: the debtor's, the creditor's, the debtor bank's, the
 -- creditor bank's; and to total compensation
 abbrev pub adding : Journal → NotedCollection → ℤ → ℤ → ℤ → ℤ → ℤ → Journal
 adding j k debtor creditor dbank cbank paid = record {
@@ -125,8 +125,8 @@ needing (known a) j f = f a
 -- ---- mandates: bullets 2, 3, 4
 
 -- a noted mandate with another creditor, debtor bank, standing or last presented
-abbrev pub remade : NotedMandate → ℕ → ℕ → Standing → ℕ → NotedMandate
-remade m creditor bank standing presented = record {
+abbrev pub notedAnew : NotedMandate → ℕ → ℕ → Standing → ℕ → NotedMandate
+notedAnew m creditor bank standing presented = record {
   creditor = creditor;
   debtor = m .debtor;
   bank = bank;
@@ -152,15 +152,15 @@ newNoted e = record {
 unfoldable pub amended : Event → NotedMandate → NotedMandate
 amended e m =
     cond (eqb (e .code) 0)
-    (remade m (m .creditor) (e .c) (m .standing) (m .presented))
-    (remade m (e .a) (m .bank) (m .standing) (m .presented))
+    (notedAnew m (m .creditor) (e .c) (m .standing) (m .presented))
+    (notedAnew m (e .a) (m .bank) (m .standing) (m .presented))
 
 unfoldable pub cancelled : NotedMandate → NotedMandate
-cancelled m = remade m (m .creditor) (m .bank) Cancelled (m .presented)
+cancelled m = notedAnew m (m .creditor) (m .bank) Cancelled (m .presented)
 
 -- ---- collects: bullet 5
 
--- the date of the first business day on or after the requested one
+-- the date that was found for a kept due; from a requested date in range there is one
 abbrev pub dueOn : DateAnswer → ℕ
 dueOn (Date x) = x
 dueOn NoDate = 0
@@ -172,7 +172,7 @@ isLast code = eqb code 2 || eqb code 3
 -- the mandate after it: last presented on the kept due, and closed by a last collection
 unfoldable pub collectedOn : Event → NotedMandate → NotedMandate
 collectedOn e m =
-    remade m (m .creditor) (m .bank) (cond (isLast (e .code)) Closed (m .standing)) (dueOn (firstBusinessDay (e .second)))
+    notedAnew m (m .creditor) (m .bank) (cond (isLast (e .code)) Closed (m .standing)) (dueOn (firstBusinessDay (e .second)))
 
 -- the collection keeps the parties and banks that are noted now
 unfoldable pub notedCollection : Journal → Event → NotedMandate → NotedCollection
@@ -197,7 +197,7 @@ noteCollect j e =
 
 -- ---- settles and undoings: bullets 6, 8, 9, 10
 
--- 6 notes the event date as S
+-- 6: S is the event date
 unfoldable pub notedSettled : NotedCollection → ℕ → NotedCollection
 notedSettled k date = record {
   mandate = k .mandate;
@@ -226,7 +226,7 @@ unfoldable pub noteRefund : Journal → NotedCollection → ℕ → Journal
 noteRefund j k paid =
     adding j k (pos (k .amount)) (negℤ (pos (k .amount + paid))) (pos (k .amount + paid)) (negℤ (pos (k .amount + paid))) (pos paid)
 
--- K, by the rate in the event and the calendar days from S to the refund
+-- K, by the rate in the event and the calendar days that went by since S
 unfoldable pub paidOn : Event → NotedCollection → ℕ
 paidOn e k = compensationFor (k .amount) (e .b) (dayNumber (e .date) - dayNumber (k .settled))
 

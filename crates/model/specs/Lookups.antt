@@ -1,4 +1,4 @@
--- Document 01, "Records": what the ledger has under a number. Of two rows of one number the lowest counts.
+-- Document 01, "Records": what the ledger has under a number. Where rows share a number the lowest counts.
 -- Assumes nothing.
 use mathlib.Core.Bool.{Bool, true, false}
 use Prim.Native.Nat.{ℕ}

@@ -1,5 +1,5 @@
 -- What the tables hold, as the journal notes it. The journal itself reads no table; this stands beside it, for a list of events that starts
--- on tables as they are. Of two rows of one number the lowest counts. Assumes nothing.
+-- on tables as they are. Where rows share a number the lowest counts. Assumes nothing.
 use mathlib.Core.Path.{_≡_}
 use Prim.Native.Nat.{ℕ}
 use lib.IntN.{pos}

@@ -1,4 +1,4 @@
--- Demand 3: what is promised of every list of events, as one claim about the whole list. `Demand3` is the statement;
+-- Demand 3, "a single claim about the whole list, not one for each event" ("The journal"). `Demand3` is the statement;
 -- `Kept` has its parts, in the order in which they are demanded. proofs/Laws/Theorem has the proof.
 -- Then `AgreesFromAnyStart`, the claim about lists that start on any tables, and what is promised of one call: `Timing`, `MandatesNotAsked`,
 -- `UnusedRows`, and the answers in numbers. Assumes nothing.
@@ -82,8 +82,8 @@ pub record NotAfter (date : ℕ) (limit : DateAnswer) : Type 0 where
   pub is : limit ≡ Date last
   pub not-after : date ≤ last
 
--- refusal 13: the requested date is not after the 14th calendar day after the event date, and the event date not after the last
--- business day before the kept due
+-- refusal 13 does not apply: it is requested for the 14th calendar day after the event date or earlier, and presented on the last
+-- business day that precedes the kept due or earlier
 pub record InGoodTime (date requested : ℕ) : Type 0 where
   pub soon : NotAfter requested (daysAfter (record { 0 = 14 }) date)
   pub early : NotAfter date (lastBusinessDayBefore (keptDue requested))

@@ -80,7 +80,7 @@ after l e = afterAnswer (answer l e) (effect l (e .date) (actionOf e)) l
 
 -- ---- a position query
 
--- kind 1 creditor, 2 debtor, 3 bank, 4 total compensation with number 0
+-- the kinds are 1 creditor, 2 debtor, 3 bank; 4, whose number is 0, is total compensation
 abbrev pub inQuery : ℕ → ℕ → Bool
 inQuery kind number =
     cond (eqb kind 1) (leb 1 number && leb number creditorCount)
@@ -116,7 +116,7 @@ unfoldable pub run : Ledger → List Event → Ledger
 run l [] = l
 run l (e ∷ es) = run (after l e) es
 
--- an event, and whether it was accepted
+-- an event, with its acceptance or refusal
 pub record Entry : Type 0 where
   pub event : Event
   pub accepted : Bool

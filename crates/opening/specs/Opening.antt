@@ -1,5 +1,5 @@
--- Document 01, "Records": "Opening makes a ledger with no rows and all positions 0." It looks at row counts and table
--- sizes alone, is refused, with 2, exactly when they are unfit, and writes no cell of a row.
+-- Document 01, "Records": "Opening makes a ledger with no rows and all positions 0." Row counts and table
+-- sizes are all that it judges: unfit ones get 2, fit ones never. It writes no cell of a row.
 -- To cite: proofs/Laws/Opening. Assumes nothing.
 use mathlib.Core.Bool.{cond}
 use Prim.Native.Nat.{ℕ}
@@ -35,16 +35,16 @@ fresh l = record {
 
 -- ---- the answer's number and the ledger after it
 
-pub record Outcome : Type 0 where
+pub record OpenResult : Type 0 where
   pub number : ℕ
   pub after : Ledger
 
-abbrev pub outcome : ℕ → Ledger → Outcome
-outcome n l = record { number = n; after = l }
+abbrev pub openResult : ℕ → Ledger → OpenResult
+openResult n l = record { number = n; after = l }
 
 -- the ledger after an opening
 unfoldable pub opened : Ledger → Ledger
 opened l = cond (sizesFit l) (fresh l) l
 
-unfoldable pub opening : Ledger → Outcome
-opening l = outcome (cond (sizesFit l) 0 (numberOf UnfitMemory)) (opened l)
+unfoldable pub opening : Ledger → OpenResult
+opening l = openResult (cond (sizesFit l) 0 (numberOf UnfitMemory)) (opened l)

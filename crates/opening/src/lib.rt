@@ -3,7 +3,7 @@ ghost use mathlib.Core.Path.{_≡_};
 ghost use lib.IntN.{pos};
 ghost use lib.ListN.{length, replicate};
 ghost use Rattle.tables.specs.Ledger.{ledger};
-ghost use Rattle.opening.specs.Opening.{openNumber, outcome, opening};
+ghost use Rattle.opening.specs.Opening.{openNumber, openResult, opening};
 use fitness::fitness::sizes_fit;
 use refusals::Refusal;
 use tables::Header;
@@ -49,7 +49,7 @@ pub fn open_ledger(
     debtor_positions: &mut [i64],
     bank_positions: &mut [i64],
 ) -> OpenOutcome
-    ensures { λ r. ⌜ outcome (openNumber (r .answer)) (ledger (r .header) (now (mandates .exit)) (now (collections .exit)) (now (creditors .exit)) (now («creditor_positions» .exit)) (now («debtor_positions» .exit)) (now («bank_positions» .exit)))
+    ensures { λ r. ⌜ openResult (openNumber (r .answer)) (ledger (r .header) (now (mandates .exit)) (now (collections .exit)) (now (creditors .exit)) (now («creditor_positions» .exit)) (now («debtor_positions» .exit)) (now («bank_positions» .exit)))
         ≡ opening (ledger header (now (mandates .entry)) (now (collections .entry)) (now (creditors .entry)) (now («creditor_positions» .entry)) (now («debtor_positions» .entry)) (now («bank_positions» .entry))) ⌝ }
 {
     if !sizes_fit(

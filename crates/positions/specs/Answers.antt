@@ -8,7 +8,7 @@ use lib.IntN.{ℤ}
 use Rattle.positions.specs.Compensation.{amountLimit}
 use Rattle.positions.specs.Limits.{compensationLimit}
 use Rattle.positions.specs.Postings.{settlement, reversed, refunded}
-use Rattle.positions.specs.Positions.{isEntry, position, posted, transferred, within}
+use Rattle.positions.specs.Positions.{hasEntry, position, posted, transferred, inLimit}
 use Rattle.positions.specs.declared.PostAnswer.{PostAnswer}
 use Rattle.positions.specs.declared.PostAnswer.the-variants.{Posted, NoEntry, TooLarge}
 use Rattle.positions.specs.declared.PostingsAnswer.{PostingsAnswer}
@@ -20,21 +20,21 @@ capacity = 4000000000000000000
 
 -- ---- the order of the tests: the entries first, then the sizes
 
-abbrev pub answerOf : Bool → Bool → PostAnswer
-answerOf entries sizes = cond entries (cond sizes Posted TooLarge) NoEntry
+abbrev pub postingAnswer : Bool → Bool → PostAnswer
+postingAnswer entries sizes = cond entries (cond sizes Posted TooLarge) NoEntry
 
 abbrev pub postSizes : List ℤ → ℕ → ℤ → Bool
-postSizes l k x = within capacity (position l k) && within capacity x
+postSizes l k x = inLimit capacity (position l k) && inLimit capacity x
 
 unfoldable pub postAnswer : List ℤ → ℕ → ℤ → PostAnswer
-postAnswer l k x = answerOf (isEntry l k) (postSizes l k x)
+postAnswer l k x = postingAnswer (hasEntry l k) (postSizes l k x)
 
 abbrev pub transferSizes : List ℤ → ℕ → ℕ → ℤ → Bool
 transferSizes l from to x =
-    within capacity (position l from) && within capacity (position l to) && within capacity x
+    inLimit capacity (position l from) && inLimit capacity (position l to) && inLimit capacity x
 
 unfoldable pub transferAnswer : List ℤ → ℕ → ℕ → ℤ → PostAnswer
-transferAnswer l from to x = answerOf (isEntry l from && isEntry l to) (transferSizes l from to x)
+transferAnswer l from to x = postingAnswer (hasEntry l from && hasEntry l to) (transferSizes l from to x)
 
 -- ---- the table after the call
 

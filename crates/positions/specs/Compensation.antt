@@ -1,4 +1,4 @@
--- The compensation of a refund. Document 01, "Postings": K = A × rate × days / 3,600,000, a half cent going up.
+-- The compensation of a refund. Document 01, "Postings": "K = A × rate × days / 3,600,000, a half cent going up".
 -- Assumes nothing.
 use mathlib.Core.Bool.{Bool, cond}
 use mathlib.Core.List.{[], _∷_}

@@ -5,8 +5,8 @@ use Rattle.common.specs.Limits.{collectionRowLimit}
 use Rattle.positions.specs.Compensation.{amountLimit}
 
 -- the collection rows that may be lent
-abbrev pub rowLimit : ℕ
-rowLimit = collectionRowLimit
+abbrev pub lentRows : ℕ
+lentRows = collectionRowLimit
 
 -- the largest compensation: that of the largest amount, rate and number of days
 abbrev pub compensationLimit : ℕ

@@ -12,10 +12,10 @@ pub use Rattle.common.specs.Limits.{positionLimit}
 -- ---- the entry of a number
 
 -- the table has an entry for the number
-abbrev pub isEntry : List ℤ → ℕ → Bool
-isEntry l k = leb 1 k && leb k (length l)
+abbrev pub hasEntry : List ℤ → ℕ → Bool
+hasEntry l k = leb 1 k && leb k (length l)
 
-pub record Entry (l : List ℤ) (k : ℕ) : Type 0 where
+pub record HasEntry (l : List ℤ) (k : ℕ) : Type 0 where
   pub low : 1 ≤ k
   pub high : k ≤ length l
 
@@ -48,9 +48,9 @@ zeros n = replicate n (pos 0)
 -- ---- the limit
 
 -- at most m on either side of 0
-abbrev pub within : ℕ → ℤ → Bool
-within m z = leZ (negℤ (pos m)) z && leZ z (pos m)
+abbrev pub inLimit : ℕ → ℤ → Bool
+inLimit m z = leZ (negℤ (pos m)) z && leZ z (pos m)
 
 -- every position of the table is at most m on either side
-abbrev pub Within : ℕ → List ℤ → Type 0
-Within m l = (k : ℕ) → natAbs (position l k) ≤ m
+abbrev pub InLimit : ℕ → List ℤ → Type 0
+InLimit m l = (k : ℕ) → natAbs (position l k) ≤ m

@@ -5,7 +5,7 @@ ghost use lib.IntN.{pos, _+ℤ_};
 ghost use lib.ListN.{length, getD, set};
 ghost use mir.Syntax.{w64};
 ghost use mir.Val.{SFits};
-ghost use Rattle.positions.specs.Positions.{position, positionLimit, isEntry, within};
+ghost use Rattle.positions.specs.Positions.{position, positionLimit, hasEntry, inLimit};
 ghost use Rattle.positions.specs.Answers.{capacity, postAnswer, afterPost, transferAnswer, afterTransfer};
 use crate::PostAnswer;
 use common::POSITION_LIMIT;
@@ -14,21 +14,21 @@ const CAPACITY: i64 = 4000000000000000000;
 
 // Whether a position lies within the limit of document 01.
 pub fn in_limit(z: i64) -> bool
-    ensures { λ r. ⌜ r ≡ within positionLimit z ⌝ }
+    ensures { λ r. ⌜ r ≡ inLimit positionLimit z ⌝ }
 {
     (-POSITION_LIMIT <= z) & (z <= POSITION_LIMIT)
 }
 
 // Whether a number is small enough to be added to another such.
 fn in_capacity(z: i64) -> bool
-    ensures { λ r. ⌜ r ≡ within capacity z ⌝ }
+    ensures { λ r. ⌜ r ≡ inLimit capacity z ⌝ }
 {
     (-CAPACITY <= z) & (z <= CAPACITY)
 }
 
 // Whether the table has an entry for the number.
 pub fn is_entry(positions: &[i64], number: u64) -> bool
-    ensures { λ r. ⌜ r ≡ isEntry (now (positions .entry)) number ⌝ }
+    ensures { λ r. ⌜ r ≡ hasEntry (now (positions .entry)) number ⌝ }
 {
     (1 <= number) & (number <= positions.len() as u64)
 }
@@ -45,7 +45,7 @@ pub fn position_of(positions: &[i64], number: u64) -> i64
 
 // Whether the position of a number is small enough to be added to.
 fn is_held(positions: &[i64], number: u64) -> bool
-    ensures { λ r. ⌜ r ≡ within capacity (position (now (positions .entry)) number) ⌝ }
+    ensures { λ r. ⌜ r ≡ inLimit capacity (position (now (positions .entry)) number) ⌝ }
 {
     in_capacity(position_of(positions, number))
 }

@@ -21,7 +21,7 @@ use Rattle.model.specs.Deadlines.{keptDue, timely, lapsedFor}
 use Rattle.model.specs.Checks.{inOrder, changeNames, standsLive, takes}
 use Rattle.model.specs.Effects.{dated, withCreditors, keepMandate, addMandate, addCollection, changed, closes, presentedOn, newCollection}
 use Rattle.checking.specs.declared.Outcome.{Outcome}
-use Rattle.checking.specs.Calls.{isFound, usedRow, rowIn, Done}
+use Rattle.checking.specs.Calls.{isFound, usedRow, foundRow, Done}
 use Rattle.records.specs.declared.collects.CollectVerdict.{CollectVerdict}
 use Rattle.records.specs.declared.collects.CollectVerdict.the-variants.{Refuse, Go}
 
@@ -66,7 +66,7 @@ abbrev pub mandateThere : Found → Ledger → Bool
 mandateThere found l = usedRow (l .mandates) (l .mandatesUsed) found
 
 abbrev pub mandateIn : Found → Ledger → Mandate
-mandateIn found l = mandateAt (l .mandates) (rowIn found)
+mandateIn found l = mandateAt (l .mandates) (foundRow found)
 
 -- of the mandate m, which is there or not
 abbrev pub changeChecks : ℕ → ℕ → Change → Bool → Mandate → List ℕ → List (Check Answer)
@@ -83,14 +83,14 @@ abbrev pub changeAnswer : Found → Ledger → ℕ → Change → Answer
 changeAnswer found l date c = changeJudged (l .latest) date c (mandateThere found l) (mandateIn found l) (l .creditors)
 
 abbrev pub changeEffect : Found → Ledger → ℕ → Change → Ledger
-changeEffect found l date c = keepMandate (dated l date) (rowIn found) (changed c (mandateIn found l))
+changeEffect found l date c = keepMandate (dated l date) (foundRow found) (changed c (mandateIn found l))
 
 abbrev pub MandateChanged : Found → Ledger → ℕ → Change → Outcome → Ledger → Type 0
 MandateChanged found l date c r l' = Done (changeAnswer found l date c) l (changeEffect found l date c) r l'
 
 -- ---- event 5
 
--- FNAL and OOFF close the mandate
+-- the mandate is closed by FNAL and by OOFF
 abbrev pub standingAfter : ℕ → Standing → Standing
 standingAfter code standing = cond (closes code) Closed standing
 
@@ -129,7 +129,7 @@ collectAnswer mandate collection l date p =
 abbrev pub collectEffect : Found → Ledger → ℕ → Presentation → Ledger
 collectEffect found l date p =
     addCollection
-    (keepMandate (dated l date) (rowIn found) (presentedOn p (mandateIn found l)))
+    (keepMandate (dated l date) (foundRow found) (presentedOn p (mandateIn found l)))
     (newCollection (l .creditors) p (mandateIn found l))
 
 abbrev pub Collected : Found → Found → Ledger → ℕ → Presentation → Outcome → Ledger → Type 0

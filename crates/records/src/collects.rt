@@ -13,10 +13,10 @@ use crate::mandates::is_live;
 use checking::Outcome;
 use checking::dated_header;
 use checking::first_failing;
+use checking::found_row;
 use checking::is_found;
 use checking::is_used;
 use checking::none_fails;
-use checking::row_in;
 use deadlines::collects::is_lapsed;
 use deadlines::collects::is_timely;
 use deadlines::collects::kept_due;
@@ -178,7 +178,7 @@ pub fn collect(
     let used = header.collections;
     let room = used < rows_of(collections);
     let there = is_used(mandate, mandates, header.mandates);
-    let row = row_in(mandate);
+    let row = found_row(mandate);
     let m = mandate_at(mandates, row);
     match judge_collect(header.latest, date, p, there, collection, room, m) {
         CollectVerdict::Refuse(r) => Outcome {

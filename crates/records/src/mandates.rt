@@ -10,10 +10,10 @@ ghost use Rattle.records.specs.Records.{mandateAnswer, MandateAdded, cha
 use checking::Outcome;
 use checking::dated_header;
 use checking::first_failing;
+use checking::found_row;
 use checking::is_found;
 use checking::is_used;
 use checking::none_fails;
-use checking::row_in;
 use model::Answer;
 use model::Change;
 use tables::Found;
@@ -149,7 +149,7 @@ pub fn change_mandate(
     ensures { λ r. ⌜ ((c : List ℕ) (cp dp bp : List ℤ) → MandateChanged found (ledger header (now (mandates .entry)) c (now (creditors .entry)) cp dp bp) date change r (ledger (r .header) (now (mandates .exit)) c (now (creditors .entry)) cp dp bp)) ⌝ }
 {
     let there = is_used(found, mandates, header.mandates);
-    let row = row_in(found);
+    let row = found_row(found);
     let m = mandate_at(mandates, row);
     match judge_change(header, date, change, there, m, creditors) {
         Answer::Refused(r) => Outcome {

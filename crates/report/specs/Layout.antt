@@ -6,7 +6,7 @@ use Prim.Native.Nat.{ℕ}
 use lib.Dec.{leb}
 use lib.IntN.{ℤ}
 use lib.ListN.{length}
-use Rattle.positions.specs.Positions.{positionLimit, within}
+use Rattle.positions.specs.Positions.{positionLimit, inLimit}
 use Rattle.digits.specs.Field.{fieldBytes, signedBytes, hasRoom}
 use Rattle.lines.specs.Line.{lineEnd}
 use Rattle.report.specs.declared.layout.Placed.{Placed}
@@ -45,7 +45,7 @@ answerFits at number answer out =
 
 unfoldable pub positionFits : ℕ → ℕ → ℕ → ℤ → List ℕ → Bool
 positionFits at kind number cents out =
-    hasRoom at positionLength (length out) && leb kind widestKind && leb number lastNumber && within positionLimit cents
+    hasRoom at positionLength (length out) && leb kind widestKind && leb number lastNumber && inLimit positionLimit cents
 
 abbrev pub placed : Bool → Placed
 placed fits = cond fits Written NoRoom

@@ -3,17 +3,14 @@ ghost use mathlib.Core.Path.{_≡_};
 ghost use Prim.Native.Nat.{_+_};
 ghost use Rattle.lines.specs.Line.{columns};
 ghost use Rattle.report.specs.Cut.{endFrom, isNone, isAt};
+use lines::line::COLUMNS;
+use lines::line::LINE_END;
 
 // The place of the byte that ends a line.
 pub enum LineEnd {
     At(usize),
     NoEnd,
 }
-
-const LINE_END: u8 = 10;
-
-// The bytes of a sound line before its end.
-const COLUMNS: usize = 74;
 
 // The bytes that are looked at together.
 const STEP: usize = 16;

@@ -4,13 +4,14 @@ ghost use mathlib.Core.Bool.{true, cond};
 ghost use Prim.Native.Nat.{_+_, _≤_};
 ghost use lib.IntN.{natAbs};
 ghost use lib.ListN.{length};
-ghost use Rattle.positions.specs.Positions.{positionLimit, within};
+ghost use Rattle.positions.specs.Positions.{positionLimit, inLimit};
 ghost use Rattle.digits.specs.Field.{pasted};
 ghost use Rattle.report.specs.Layout.{answerLength, answerLine, answerFits, positionLength, positionLine, positionFits, placed};
 use digits::BLANK;
 use digits::has_room;
 use digits::writing::put;
 use digits::writing::sign;
+use lines::line::LINE_END;
 use positions::posting::in_limit;
 
 // Whether a line was written.
@@ -29,13 +30,11 @@ pub const LAST_NUMBER: u64 = 999_999;
 
 const LAST_ANSWER: u64 = 999;
 
-const LAST_KIND: u64 = 99;
-
-const LINE_END: u8 = 10;
+const WIDEST_KIND: u64 = 99;
 
 // How far a number of cents lies from 0.
 fn size(cents: i64) -> u64
-    requires { ⌜ within positionLimit cents ≡ true ⌝ }
+    requires { ⌜ inLimit positionLimit cents ≡ true ⌝ }
     ensures { λ r. ⌜ r ≡ natAbs cents ⌝ }
 {
     if cents < 0 {
@@ -56,7 +55,7 @@ fn put_answer(out: &mut [u8], at: usize, number: u64, answer: u64)
 
 // Writes the position line of a party to a place that has room for it.
 fn put_position(out: &mut [u8], at: usize, kind: u64, number: u64, cents: i64)
-    requires { ⌜ (at + positionLength ≤ length (now out)) × (within positionLimit cents ≡ true) ⌝ }
+    requires { ⌜ (at + positionLength ≤ length (now out)) × (inLimit positionLimit cents ≡ true) ⌝ }
     ensures { λ _. ⌜ now (out .exit) ≡ pasted at (positionLine kind number cents) (now (out .entry)) ⌝ }
 {
     put(out, at, 2, BLANK, kind);
@@ -83,7 +82,7 @@ pub fn position_line(out: &mut [u8], at: usize, kind: u64, number: u64, cents: i
     ensures bytes { λ _. ⌜ now (out .exit) ≡ cond (positionFits at kind number cents (now (out .entry))) (pasted at (positionLine kind number cents) (now (out .entry))) (now (out .entry)) ⌝ }
 {
     if has_room(out.len(), at, POSITION)
-        & (kind <= LAST_KIND)
+        & (kind <= WIDEST_KIND)
         & (number <= LAST_NUMBER)
         & in_limit(cents)
     {

@@ -1,4 +1,5 @@
-// Cases of the text of the program `ledger`, for comparison with lines that document 01 shows or that follow from it by hand.
+// Cases of the text of the program `ledger`, for comparison with lines that document 01 shows or that follow from it, as
+// tests/report_oracle.py works them out.
 use libc::STDOUT_FILENO;
 use report::cut;
 use report::cut::LineEnd;

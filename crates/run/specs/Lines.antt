@@ -14,13 +14,13 @@ use Rattle.model.specs.Step.{answerNumber, Entry, entry}
 use Rattle.report.specs.Layout.{lastNumber, answerLine}
 use Rattle.run.specs.Run.{answerTo, afterLine}
 
--- each byte 10 ends a line; bytes that have begun one stand before the text
+-- each byte 10 ends a line; the bytes of a partial one stand before the text
 unfoldable pub linesFrom : List ℕ → List ℕ → List (List ℕ)
-linesFrom begun [] = []
-linesFrom begun (b ∷ bs) =
+linesFrom partial [] = []
+linesFrom partial (b ∷ bs) =
     cond (eqb b lineEnd)
-    ((begun ++ (b ∷ [])) ∷ linesFrom [] bs)
-    (linesFrom (begun ++ (b ∷ [])) bs)
+    ((partial ++ (b ∷ [])) ∷ linesFrom [] bs)
+    (linesFrom (partial ++ (b ∷ [])) bs)
 
 -- the lines that are answered, where n were before
 unfoldable pub answeredLines : ℕ → List ℕ → List (List ℕ)
@@ -28,8 +28,8 @@ answeredLines n text = take (lastNumber - n) (linesFrom [] text)
 
 -- the bytes behind the last
 unfoldable pub lastFrom : List ℕ → List ℕ → List ℕ
-lastFrom begun [] = begun
-lastFrom begun (b ∷ bs) = cond (eqb b lineEnd) (lastFrom [] bs) (lastFrom (begun ++ (b ∷ [])) bs)
+lastFrom partial [] = partial
+lastFrom partial (b ∷ bs) = cond (eqb b lineEnd) (lastFrom [] bs) (lastFrom (partial ++ (b ∷ [])) bs)
 
 abbrev pub lastPiece : List ℕ → List ℕ
 lastPiece text = lastFrom [] text
@@ -49,9 +49,9 @@ answersOf l [] = []
 answersOf l (line ∷ rest) = answerNumber (answerTo l (readLine line)) ∷ answersOf (afterLine l (readLine line)) rest
 
 -- what is written of the numbers, where n lines were answered before
-unfoldable pub toldAnswers : ℕ → List ℕ → List ℕ
-toldAnswers n [] = []
-toldAnswers n (a ∷ rest) = answerLine (n + 1) a ++ toldAnswers (n + 1) rest
+unfoldable pub answersOutput : ℕ → List ℕ → List ℕ
+answersOutput n [] = []
+answersOutput n (a ∷ rest) = answerLine (n + 1) a ++ answersOutput (n + 1) rest
 
 -- the history that lines and numbers tell: an event whose number is 0 was accepted
 abbrev pub entryIn : LineAnswer → ℕ → List Entry

@@ -11,54 +11,54 @@ use Rattle.opening.specs.Opening.{opened}
 use Rattle.model.specs.Step.{run, history}
 use Rattle.model.specs.Journal.{journal}
 use Rattle.model.specs.Promises.{Kept}
-use Rattle.report.specs.Layout.{answerLine}
-use Rattle.run.specs.Run.{Run, runAt, takeText, toldText, endLines, endText, toldEnd, toldPositions, toldJournal}
-use Rattle.run.specs.Lines.{answeredLines, lastPiece, eventsOf, answersOf, toldAnswers, historyOf}
+use Rattle.report.specs.Layout.{lastNumber, answerLine}
+use Rattle.run.specs.Run.{Run, runAt, takeText, textOutput, endLines, endText, endOutput, positionsOutput, journalOutput}
+use Rattle.run.specs.Lines.{answeredLines, lastPiece, eventsOf, answersOf, answersOutput, historyOf}
 
 -- ---- a text, from any ledger on: for each line, in order, its number and its answer is written; the ledger is the one after the
 -- events, and the history has as accepted those to which 0 is written
 
-pub record LinesTold (l : Ledger) (n : ℕ) (text : List ℕ) (lines : List (List ℕ)) (r : Run) : Type 0 where
-  pub told : toldText (runAt l n []) text ≡ toldAnswers n (answersOf l lines)
+pub record LinesWritten (l : Ledger) (n : ℕ) (text : List ℕ) (lines : List (List ℕ)) (r : Run) : Type 0 where
+  pub written : textOutput (runAt l n []) text ≡ answersOutput n (answersOf l lines)
   pub count : r .lines ≡ n + length lines
   pub after : r .book ≡ run l (eventsOf lines)
   pub accepted : history l (eventsOf lines) ≡ historyOf lines (answersOf l lines)
   -- a last piece that is not empty is a line refused 1, and the ledger stays as it is
   pub end-after : endText r ≡ runAt (r .book) (endLines (r .lines) (length (lastPiece text))) []
-  pub end-told :
-      toldEnd r
-      ≡ cond (ltb (r .lines) 999999 && ltb 0 (length (lastPiece text))) (answerLine (r .lines + 1) 1) []
+  pub end-output :
+      endOutput r
+      ≡ cond (ltb (r .lines) lastNumber && ltb 0 (length (lastPiece text))) (answerLine (r .lines + 1) 1) []
 
 abbrev pub LineByLine : Type 0
-LineByLine = (l : Ledger) (n : ℕ) (text : List ℕ) → LinesTold l n text (answeredLines n text) (takeText (runAt l n []) text)
+LineByLine = (l : Ledger) (n : ℕ) (text : List ℕ) → LinesWritten l n text (answeredLines n text) (takeText (runAt l n []) text)
 
 -- ---- pieces: an input in any number of pieces, before each of which the bytes of a line that has not ended are put, is answered
 -- as if it came at once: no line is lost and none is answered twice
 
 abbrev pub takePiece : Run → List ℕ → Run
-takePiece r piece = takeText (runAt (r .book) (r .lines) []) (r .begun ++ piece)
+takePiece r piece = takeText (runAt (r .book) (r .lines) []) (r .partial ++ piece)
 
-abbrev pub toldPiece : Run → List ℕ → List ℕ
-toldPiece r piece = toldText (runAt (r .book) (r .lines) []) (r .begun ++ piece)
+abbrev pub nextOutput : Run → List ℕ → List ℕ
+nextOutput r piece = textOutput (runAt (r .book) (r .lines) []) (r .partial ++ piece)
 
 unfoldable pub takePieces : Run → List (List ℕ) → Run
 takePieces r [] = r
 takePieces r (piece ∷ rest) = takePieces (takePiece r piece) rest
 
-unfoldable pub toldPieces : Run → List (List ℕ) → List ℕ
-toldPieces r [] = []
-toldPieces r (piece ∷ rest) = toldPiece r piece ++ toldPieces (takePiece r piece) rest
+unfoldable pub piecesOutput : Run → List (List ℕ) → List ℕ
+piecesOutput r [] = []
+piecesOutput r (piece ∷ rest) = nextOutput r piece ++ piecesOutput (takePiece r piece) rest
 
-unfoldable pub joined : List (List ℕ) → List ℕ
-joined [] = []
-joined (piece ∷ rest) = piece ++ joined rest
+unfoldable pub atOnce : List (List ℕ) → List ℕ
+atOnce [] = []
+atOnce (piece ∷ rest) = piece ++ atOnce rest
 
 pub record SameAtOnce (s : Run) (pieces : List (List ℕ)) : Type 0 where
-  pub after : takePieces s pieces ≡ takeText s (joined pieces)
-  pub told : toldPieces s pieces ≡ toldText s (joined pieces)
+  pub after : takePieces s pieces ≡ takeText s (atOnce pieces)
+  pub written : piecesOutput s pieces ≡ textOutput s (atOnce pieces)
   -- and so at the end of the input
-  pub end-after : endText (takePieces s pieces) ≡ endText (takeText s (joined pieces))
-  pub end-told : toldEnd (takePieces s pieces) ≡ toldEnd (takeText s (joined pieces))
+  pub end-after : endText (takePieces s pieces) ≡ endText (takeText s (atOnce pieces))
+  pub end-output : endOutput (takePieces s pieces) ≡ endOutput (takeText s (atOnce pieces))
 
 abbrev pub InPieces : Type 0
 InPieces = (l : Ledger) (n : ℕ) (pieces : List (List ℕ)) → SameAtOnce (runAt l n []) pieces
@@ -68,7 +68,7 @@ InPieces = (l : Ledger) (n : ℕ) (pieces : List (List ℕ)) → SameAtOnce (run
 
 pub record TextKept (l : Ledger) (lines : List (List ℕ)) (r : Run) : Type 0 where
   pub all-kept : Kept l (eventsOf lines)
-  pub listing : toldPositions (endText r .book) ≡ toldJournal (journal (historyOf lines (answersOf l lines)))
+  pub listing : positionsOutput (endText r .book) ≡ journalOutput (journal (historyOf lines (answersOf l lines)))
 
 abbrev pub ProgramKept : Type 0
 ProgramKept =

@@ -44,17 +44,17 @@ pub record Run : Type 0 where
   -- the lines answered
   pub lines : ℕ
   -- the bytes of a line that has not ended
-  pub begun : List ℕ
+  pub partial : List ℕ
 
 abbrev pub runAt : Ledger → ℕ → List ℕ → Run
-runAt l n line = record { book = l; lines = n; begun = line }
+runAt l n line = record { book = l; lines = n; partial = line }
 
--- a line longer than a sound one is bad whatever it goes on with, so one byte more is kept of it
-abbrev pub keptLength : ℕ
-keptLength = lineLength + 1
+-- a line longer than a sound one is bad whatever it goes on with, so it is clipped to one byte more
+abbrev pub clippedLength : ℕ
+clippedLength = lineLength + 1
 
-abbrev pub kept : List ℕ → List ℕ
-kept line = take keptLength line
+abbrev pub clipped : List ℕ → List ℕ
+clipped line = take clippedLength line
 
 -- a line has ended; no more than 999,999 are answered
 abbrev pub ended : Run → List ℕ → Run
@@ -63,8 +63,8 @@ ended r line =
     (runAt (afterLine (r .book) (readLine line)) (r .lines + 1) [])
     (runAt (r .book) (r .lines) [])
 
-abbrev pub toldEnded : Run → List ℕ → List ℕ
-toldEnded r line =
+abbrev pub lineOutput : Run → List ℕ → List ℕ
+lineOutput r line =
     cond (ltb (r .lines) lastNumber)
     (answerLine (r .lines + 1) (answerNumber (answerTo (r .book) (readLine line))))
     []
@@ -74,66 +74,66 @@ toldEnded r line =
 abbrev pub takeByte : Run → ℕ → Run
 takeByte r b =
     cond (eqb b lineEnd)
-    (ended r (kept (r .begun ++ (b ∷ []))))
-    (runAt (r .book) (r .lines) (kept (r .begun ++ (b ∷ []))))
+    (ended r (clipped (r .partial ++ (b ∷ []))))
+    (runAt (r .book) (r .lines) (clipped (r .partial ++ (b ∷ []))))
 
-abbrev pub toldByte : Run → ℕ → List ℕ
-toldByte r b = cond (eqb b lineEnd) (toldEnded r (kept (r .begun ++ (b ∷ [])))) []
+abbrev pub byteOutput : Run → ℕ → List ℕ
+byteOutput r b = cond (eqb b lineEnd) (lineOutput r (clipped (r .partial ++ (b ∷ [])))) []
 
 unfoldable pub takeText : Run → List ℕ → Run
 takeText r [] = r
 takeText r (b ∷ bs) = takeText (takeByte r b) bs
 
-unfoldable pub toldText : Run → List ℕ → List ℕ
-toldText r [] = []
-toldText r (b ∷ bs) = toldByte r b ++ toldText (takeByte r b) bs
+unfoldable pub textOutput : Run → List ℕ → List ℕ
+textOutput r [] = []
+textOutput r (b ∷ bs) = byteOutput r b ++ textOutput (takeByte r b) bs
 
 -- ---- the end of the input: bytes of a line that has not ended are a line refused 1, one of the 999,999
 
 abbrev pub endsLine : ℕ → ℕ → Bool
-endsLine lines begun = ltb lines lastNumber && ltb 0 begun
+endsLine lines partial = ltb lines lastNumber && ltb 0 partial
 
--- the lines answered then, and what is written, by the lines answered before and the number of bytes begun
+-- the lines answered then, and what is written, by the lines answered before and the number of the partial line's bytes
 abbrev pub endLines : ℕ → ℕ → ℕ
-endLines lines begun = cond (endsLine lines begun) (lines + 1) lines
+endLines lines partial = cond (endsLine lines partial) (lines + 1) lines
 
-abbrev pub endTold : ℕ → ℕ → List ℕ
-endTold lines begun = cond (endsLine lines begun) (answerLine (lines + 1) (numberOf BadLine)) []
+abbrev pub endBytes : ℕ → ℕ → List ℕ
+endBytes lines partial = cond (endsLine lines partial) (answerLine (lines + 1) (numberOf BadLine)) []
 
 abbrev pub endText : Run → Run
-endText r = runAt (r .book) (endLines (r .lines) (length (r .begun))) []
+endText r = runAt (r .book) (endLines (r .lines) (length (r .partial))) []
 
-abbrev pub toldEnd : Run → List ℕ
-toldEnd r = endTold (r .lines) (length (r .begun))
+abbrev pub endOutput : Run → List ℕ
+endOutput r = endBytes (r .lines) (length (r .partial))
 
 -- ---- the positions
 
 -- a position of 0 is not written
-abbrev pub toldPosition : ℕ → ℕ → ℤ → List ℕ
-toldPosition kind number (pos zero) = []
-toldPosition kind number (pos (suc n)) = positionLine kind number (pos (suc n))
-toldPosition kind number (negsuc n) = positionLine kind number (negsuc n)
+abbrev pub positionOutput : ℕ → ℕ → ℤ → List ℕ
+positionOutput kind number (pos zero) = []
+positionOutput kind number (pos (suc n)) = positionLine kind number (pos (suc n))
+positionOutput kind number (negsuc n) = positionLine kind number (negsuc n)
 
 -- those of a kind, from number 1 to n, by the figure of each number
-unfoldable pub toldFigures : ℕ → (ℕ → ℤ) → ℕ → List ℕ
-toldFigures kind figure zero = []
-toldFigures kind figure (suc n) = toldFigures kind figure n ++ toldPosition kind (suc n) (figure (suc n))
+unfoldable pub figuresOutput : ℕ → (ℕ → ℤ) → ℕ → List ℕ
+figuresOutput kind figure zero = []
+figuresOutput kind figure (suc n) = figuresOutput kind figure n ++ positionOutput kind (suc n) (figure (suc n))
 
-abbrev pub toldKind : Ledger → ℕ → ℕ → List ℕ
-toldKind l kind n = toldFigures kind (figureOf l kind) n
+abbrev pub kindOutput : Ledger → ℕ → ℕ → List ℕ
+kindOutput l kind n = figuresOutput kind (figureOf l kind) n
 
 -- creditors, debtors, banks, and total compensation, be it 0
-unfoldable pub toldPositions : Ledger → List ℕ
-toldPositions l =
-    toldKind l 1 creditorCount
-    ++ toldKind l 2 debtorCount
-    ++ toldKind l 3 bankCount
+unfoldable pub positionsOutput : Ledger → List ℕ
+positionsOutput l =
+    kindOutput l 1 creditorCount
+    ++ kindOutput l 2 debtorCount
+    ++ kindOutput l 3 bankCount
     ++ positionLine 4 0 (l .compensation)
 
 -- the same of a journal's figures
-unfoldable pub toldJournal : Journal → List ℕ
-toldJournal j =
-    toldFigures 1 (figureIn j 1) creditorCount
-    ++ toldFigures 2 (figureIn j 2) debtorCount
-    ++ toldFigures 3 (figureIn j 3) bankCount
+unfoldable pub journalOutput : Journal → List ℕ
+journalOutput j =
+    figuresOutput 1 (figureIn j 1) creditorCount
+    ++ figuresOutput 2 (figureIn j 2) debtorCount
+    ++ figuresOutput 3 (figureIn j 3) bankCount
     ++ positionLine 4 0 (figureIn j 4 0)

@@ -12,7 +12,7 @@ use Rattle.common.specs.Tests.{allOf}
 use Rattle.common.specs.Walk.{allFrom}
 use Rattle.positions.specs.Compensation.{amountLimit}
 use Rattle.positions.specs.Limits.{rowMove}
-use Rattle.positions.specs.Positions.{within}
+use Rattle.positions.specs.Positions.{inLimit}
 use Rattle.tables.specs.Ledger.{Ledger}
 use Rattle.fitness.specs.Fitness.{fit}
 use Rattle.model.specs.Bounds.{spent}
@@ -21,7 +21,7 @@ use Rattle.model.specs.Bounds.{spent}
 
 -- the position at index i is at most m on either side of 0
 abbrev pub withinAt : ℕ → List ℤ → ℕ → Bool
-withinAt m positions i = within m (getD positions i (pos 0))
+withinAt m positions i = inLimit m (getD positions i (pos 0))
 
 -- every position of the table is
 unfoldable pub withinSpent : ℕ → List ℤ → Bool
@@ -36,7 +36,7 @@ bounded l =
     (withinSpent (spent l) (l .creditorPositions)
     ∷ withinSpent (spent l) (l .debtorPositions)
     ∷ withinSpent (spent l) (l .bankPositions)
-    ∷ within (spent l) (l .compensation)
+    ∷ inLimit (spent l) (l .compensation)
     ∷ [])
 
 unfoldable pub isSafe : Ledger → Bool

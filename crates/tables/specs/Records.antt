@@ -1,5 +1,5 @@
 -- Document 01, "Records": a mandate and a collection as the cells of a row, and back; and with some fields anew. A new field
--- is a column, a cell of `mandateCells`, and a line of `mandateOf` and `remade` (or of `collectionCells`, `collectionOf` and
+-- is a column, a cell of `mandateCells`, and a line of `mandateFrom` and `remade` (or of `collectionCells`, `collectionFrom` and
 -- `withState`); the stride must have room for it.
 -- To cite: proofs/Laws/Records. Assumes nothing.
 use mathlib.Core.Bool.{Bool, true, false, cond, not}
@@ -57,8 +57,8 @@ mandateCells m =
     ∷ m .presented
     ∷ [])
 
-unfoldable pub mandateOf : List ℕ → Mandate
-mandateOf fields = record {
+unfoldable pub mandateFrom : List ℕ → Mandate
+mandateFrom fields = record {
   number = getD fields MandateColumn.number 0;
   creditor = getD fields MandateColumn.creditor 0;
   debtor = getD fields MandateColumn.debtor 0;
@@ -126,8 +126,8 @@ collectionCells c =
     ∷ stateDay (c .state)
     ∷ [])
 
-unfoldable pub collectionOf : List ℕ → Collection
-collectionOf fields = record {
+unfoldable pub collectionFrom : List ℕ → Collection
+collectionFrom fields = record {
   number = getD fields CollectionColumn.number 0;
   creditor = getD fields CollectionColumn.creditor 0;
   debtor = getD fields CollectionColumn.debtor 0;

@@ -10,7 +10,7 @@ use lib.Seq.{sets}
 use Rattle.tables.specs.declared.Mandate.{Mandate}
 use Rattle.tables.specs.declared.Collection.{Collection}
 use Rattle.tables.specs.Limits.{stride}
-use Rattle.tables.specs.Records.{mandateCells, mandateOf, collectionCells, collectionOf}
+use Rattle.tables.specs.Records.{mandateCells, mandateFrom, collectionCells, collectionFrom}
 
 -- ---- rows of any width
 
@@ -35,13 +35,13 @@ abbrev pub rows : List ℕ → ℕ
 rows cells = rowsOf stride cells
 
 unfoldable pub mandateAt : List ℕ → ℕ → Mandate
-mandateAt cells row = mandateOf (rowAt stride cells row)
+mandateAt cells row = mandateFrom (rowAt stride cells row)
 
 abbrev pub putMandate : List ℕ → ℕ → Mandate → List ℕ
 putMandate cells row m = putRow stride cells row (mandateCells m)
 
 unfoldable pub collectionAt : List ℕ → ℕ → Collection
-collectionAt cells row = collectionOf (rowAt stride cells row)
+collectionAt cells row = collectionFrom (rowAt stride cells row)
 
 abbrev pub putCollection : List ℕ → ℕ → Collection → List ℕ
 putCollection cells row c = putRow stride cells row (collectionCells c)

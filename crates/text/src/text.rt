@@ -13,9 +13,9 @@ ghost use Rattle.fitness.specs.Fitness.{fit};
 ghost use Rattle.model.specs.Bounds.{Safe};
 ghost use Rattle.model.specs.Step.{answerNumber};
 ghost use Rattle.report.specs.Layout.{answerLength};
-ghost use Rattle.run.specs.Run.{runAt, keptLength, kept};
+ghost use Rattle.run.specs.Run.{runAt, clippedLength, clipped};
 ghost use Rattle.book.specs.Events.{Taken};
-ghost use Rattle.text.specs.Text.{Sound, WhenKnown, LineTaken, AnswerRoom, LineTold, TextRoom, LinesAnswered, unfitPiece, PieceTaken};
+ghost use Rattle.text.specs.Text.{Sound, WhenPrepared, LineTaken, AnswerRoom, LineAnswered, TextRoom, LinesAnswered, unfitPiece, PieceTaken};
 use book::acting::act;
 use book::acting::find_collection;
 use book::acting::find_mandate;
@@ -26,6 +26,7 @@ use fitness::fitness::is_fit;
 use index::INDEX;
 use index::first_row;
 use index::index_rows;
+use lines::line::COLUMNS;
 use lines::line::FIELDS;
 use lines::line::event_in;
 use lines::line::read_cells;
@@ -40,36 +41,36 @@ use report::layout::answer_line;
 use safety::is_safe;
 use tables::Header;
 
-// The bytes that are kept of a line that has begun.
-const KEPT: usize = 76;
+// A partial line is clipped to one byte more than a sound line has.
+const CLIPPED: usize = COLUMNS + 2;
 
 // The header, the lines answered and the bytes written so far.
 struct Progress {
     header: Header,
     lines: u64,
-    told: usize,
+    written: usize,
 }
 
 // The same, and where the first line begins that has not ended.
 struct Lines {
     header: Header,
     lines: u64,
-    told: usize,
+    written: usize,
     at: usize,
 }
 
-// What a call leaves: the header, the lines answered so far, the bytes of the line that has begun, the bytes written, and
+// What a call leaves: the header, the lines answered so far, the bytes of the partial line, the bytes written, and
 // the answer to the call.
 pub struct Piece {
     pub header: Header,
     pub lines: u64,
-    pub begun: usize,
-    pub told: usize,
+    pub partial: usize,
+    pub written: usize,
     pub answer: Answer,
 }
 
 // The number of an answer: 0 where the event is accepted.
-fn answer_number(answer: Answer) -> u64
+pub fn answer_number(answer: Answer) -> u64
     ensures { λ r. ⌜ r ≡ answerNumber answer ⌝ }
 {
     match answer {
@@ -90,7 +91,7 @@ fn start(indexed: bool, index: &[u16; INDEX], cells: &[u64], number: u64) -> usi
 
 // Whether the memory is fit; memory that is known to be safe is not tested again.
 fn may_act(
-    known: bool,
+    prepared: bool,
     header: Header,
     mandates: &[u64],
     collections: &[u64],
@@ -99,10 +100,10 @@ fn may_act(
     debtor_positions: &[i64],
     bank_positions: &[i64],
 ) -> bool
-    requires { ⌜ (known ≡ true → Safe (ledger header (now mandates) (now collections) (now creditors) (now «creditor_positions») (now «debtor_positions») (now «bank_positions»))) ⌝ }
+    requires { ⌜ (prepared ≡ true → Safe (ledger header (now mandates) (now collections) (now creditors) (now «creditor_positions») (now «debtor_positions») (now «bank_positions»))) ⌝ }
     ensures { λ r. ⌜ r ≡ fit (ledger header (now (mandates .entry)) (now (collections .entry)) (now (creditors .entry)) (now («creditor_positions» .entry)) (now («debtor_positions» .entry)) (now («bank_positions» .entry))) ⌝ }
 {
-    if known {
+    if prepared {
         return true;
     }
     is_fit(
@@ -118,7 +119,7 @@ fn may_act(
 
 // An event within its limits. What it names is looked for from where the indexes say.
 fn take_sound(
-    known: bool,
+    prepared: bool,
     header: Header,
     e: Event,
     mandate_index: &[u16; INDEX],
@@ -130,12 +131,12 @@ fn take_sound(
     debtor_positions: &mut [i64],
     bank_positions: &mut [i64],
 ) -> Outcome
-    requires { ⌜ Sound known (now «mandate_index») (now «collection_index») (ledger header (now mandates) (now collections) (now creditors) (now «creditor_positions») (now «debtor_positions») (now «bank_positions»)) e ⌝ }
+    requires { ⌜ Sound prepared (now «mandate_index») (now «collection_index») (ledger header (now mandates) (now collections) (now creditors) (now «creditor_positions») (now «debtor_positions») (now «bank_positions»)) e ⌝ }
     ensures { λ r. ⌜ Taken (ledger header (now (mandates .entry)) (now (collections .entry)) (now (creditors .entry)) (now («creditor_positions» .entry)) (now («debtor_positions» .entry)) (now («bank_positions» .entry))) e r
         (ledger (r .header) (now (mandates .exit)) (now (collections .exit)) (now (creditors .exit)) (now («creditor_positions» .exit)) (now («debtor_positions» .exit)) (now («bank_positions» .exit))) ⌝ }
 {
     if !may_act(
-        known,
+        prepared,
         header,
         mandates,
         collections,
@@ -149,8 +150,8 @@ fn take_sound(
             header: header,
         };
     }
-    let mandate_since = start(known & (e.kind <= 5), mandate_index, mandates, e.mandate);
-    let collection_since = start(known & (5 <= e.kind), collection_index, collections, e.a);
+    let mandate_since = start(prepared & (e.kind <= 5), mandate_index, mandates, e.mandate);
+    let collection_since = start(prepared & (5 <= e.kind), collection_index, collections, e.a);
     act(
         header,
         e,
@@ -167,7 +168,7 @@ fn take_sound(
 
 // A line: what the reader refuses, or what the ledger answers.
 fn take_line(
-    known: bool,
+    prepared: bool,
     header: Header,
     line: &[u8],
     mandate_index: &[u16; INDEX],
@@ -179,7 +180,7 @@ fn take_line(
     debtor_positions: &mut [i64],
     bank_positions: &mut [i64],
 ) -> Outcome
-    requires { ⌜ WhenKnown known (now «mandate_index») (now «collection_index») (ledger header (now mandates) (now collections) (now creditors) (now «creditor_positions») (now «debtor_positions») (now «bank_positions»)) ⌝ }
+    requires { ⌜ WhenPrepared prepared (now «mandate_index») (now «collection_index») (ledger header (now mandates) (now collections) (now creditors) (now «creditor_positions») (now «debtor_positions») (now «bank_positions»)) ⌝ }
     ensures { λ r. ⌜ LineTaken (ledger header (now (mandates .entry)) (now (collections .entry)) (now (creditors .entry)) (now («creditor_positions» .entry)) (now («debtor_positions» .entry)) (now («bank_positions» .entry))) (now (line .entry)) r
         (ledger (r .header) (now (mandates .exit)) (now (collections .exit)) (now (creditors .exit)) (now («creditor_positions» .exit)) (now («debtor_positions» .exit)) (now («bank_positions» .exit))) ⌝ }
 {
@@ -190,7 +191,7 @@ fn take_line(
             header: header,
         },
         Checked::Within => take_sound(
-            known,
+            prepared,
             header,
             event_in(&cells),
             mandate_index,
@@ -207,7 +208,7 @@ fn take_line(
 
 // Answers a line that has ended, unless 999,999 were answered before.
 fn end_line(
-    known: bool,
+    prepared: bool,
     p: Progress,
     line: &[u8],
     out: &mut [u8],
@@ -220,18 +221,18 @@ fn end_line(
     debtor_positions: &mut [i64],
     bank_positions: &mut [i64],
 ) -> Progress
-    requires { ⌜ AnswerRoom known (now «mandate_index») (now «collection_index») (ledger (p .header) (now mandates) (now collections) (now creditors) (now «creditor_positions») (now «debtor_positions») (now «bank_positions»)) (p .told) (now out) ⌝ }
-    ensures { λ r. ⌜ LineTold (ledger (p .header) (now (mandates .entry)) (now (collections .entry)) (now (creditors .entry)) (now («creditor_positions» .entry)) (now («debtor_positions» .entry)) (now («bank_positions» .entry))) p (now (line .entry)) (now (out .entry)) r
+    requires { ⌜ AnswerRoom prepared (now «mandate_index») (now «collection_index») (ledger (p .header) (now mandates) (now collections) (now creditors) (now «creditor_positions») (now «debtor_positions») (now «bank_positions»)) (p .written) (now out) ⌝ }
+    ensures { λ r. ⌜ LineAnswered (ledger (p .header) (now (mandates .entry)) (now (collections .entry)) (now (creditors .entry)) (now («creditor_positions» .entry)) (now («debtor_positions» .entry)) (now («bank_positions» .entry))) p (now (line .entry)) (now (out .entry)) r
         (ledger (r .header) (now (mandates .exit)) (now (collections .exit)) (now (creditors .exit)) (now («creditor_positions» .exit)) (now («debtor_positions» .exit)) (now («bank_positions» .exit))) (now (out .exit)) ⌝ }
 {
     if p.lines >= LAST_NUMBER {
         return p;
     }
     let header = p.header;
-    let told = p.told;
+    let written = p.written;
     let number = p.lines + 1;
     let done = take_line(
-        known,
+        prepared,
         header,
         line,
         mandate_index,
@@ -245,17 +246,17 @@ fn end_line(
     );
     let answer = done.answer;
     let after = done.header;
-    answer_line(out, told, number, answer_number(answer));
+    answer_line(out, written, number, answer_number(answer));
     Progress {
         header: after,
         lines: number,
-        told: told + ANSWER,
+        written: written + ANSWER,
     }
 }
 
 // Answers the lines of a text that have ended.
 fn take_lines(
-    known: bool,
+    prepared: bool,
     header: Header,
     lines: u64,
     text: &[u8],
@@ -269,14 +270,14 @@ fn take_lines(
     debtor_positions: &mut [i64],
     bank_positions: &mut [i64],
 ) -> Lines
-    requires { ⌜ TextRoom known (now «mandate_index») (now «collection_index») (ledger header (now mandates) (now collections) (now creditors) (now «creditor_positions») (now «debtor_positions») (now «bank_positions»)) (now text) (now out) ⌝ }
+    requires { ⌜ TextRoom prepared (now «mandate_index») (now «collection_index») (ledger header (now mandates) (now collections) (now creditors) (now «creditor_positions») (now «debtor_positions») (now «bank_positions»)) (now text) (now out) ⌝ }
     ensures { λ r. ⌜ LinesAnswered (runAt (ledger header (now (mandates .entry)) (now (collections .entry)) (now (creditors .entry)) (now («creditor_positions» .entry)) (now («debtor_positions» .entry)) (now («bank_positions» .entry))) lines []) (now (text .entry)) (now (out .entry)) r
         (ledger (r .header) (now (mandates .exit)) (now (collections .exit)) (now (creditors .exit)) (now («creditor_positions» .exit)) (now («debtor_positions» .exit)) (now («bank_positions» .exit))) (now (out .exit)) ⌝ }
 {
     let mut p = Progress {
         header: header,
         lines: lines,
-        told: 0,
+        written: 0,
     };
     let mut at: usize = 0;
     while at < text.len() {
@@ -285,13 +286,13 @@ fn take_lines(
             return Lines {
                 header: last,
                 lines: p.lines,
-                told: p.told,
+                written: p.written,
                 at: at,
             };
         };
         let next = k + 1;
         p = end_line(
-            known,
+            prepared,
             p,
             &text[at..next],
             out,
@@ -310,25 +311,25 @@ fn take_lines(
     Lines {
         header: last,
         lines: p.lines,
-        told: p.told,
+        written: p.written,
         at: at,
     }
 }
 
-// The bytes that are kept of a line that has begun.
-fn kept_length(long: usize) -> usize
-    ensures { λ r. ⌜ r ≡ min long keptLength ⌝ }
+// The bytes of a partial line that are left of so many.
+fn clip(long: usize) -> usize
+    ensures { λ r. ⌜ r ≡ min long clippedLength ⌝ }
 {
-    if long < KEPT { long } else { KEPT }
+    if long < CLIPPED { long } else { CLIPPED }
 }
 
-// Puts what is kept of the line that begins at a place to the front of the text, and gives its length.
-fn keep_begun(text: &mut [u8], at: usize, filled: usize) -> usize
+// Puts the partial line that begins at a place, clipped, to the front of the text, and gives its length.
+fn keep_partial(text: &mut [u8], at: usize, filled: usize) -> usize
     requires { ⌜ (at ≤ filled) × (filled ≤ length (now text)) ⌝ }
-    ensures length { λ r. ⌜ r ≡ length (kept (drop at (take filled (now (text .entry))))) ⌝ }
-    ensures text { λ _. ⌜ now (text .exit) ≡ pasted 0 (kept (drop at (take filled (now (text .entry))))) (now (text .entry)) ⌝ }
+    ensures length { λ r. ⌜ r ≡ length (clipped (drop at (take filled (now (text .entry))))) ⌝ }
+    ensures text { λ _. ⌜ now (text .exit) ≡ pasted 0 (clipped (drop at (take filled (now (text .entry))))) (now (text .entry)) ⌝ }
 {
-    let n = kept_length(filled - at);
+    let n = clip(filled - at);
     let mut i: usize = 0;
     while i < n {
         text[i] = text[at + i];
@@ -352,13 +353,13 @@ fn unfit(header: Header, lines: u64, filled: usize) -> Piece
         answer: Answer::Refused(Refusal::UnfitMemory),
         header: header,
         lines: lines,
-        begun: filled,
-        told: 0,
+        partial: filled,
+        written: 0,
     }
 }
 
-// Takes a piece of input, its first `filled` bytes: answers every line that has ended, and puts what is kept of the next
-// one to the front of the text. The memory is tested once, and each table gets an index.
+// Takes a piece of input, its first `filled` bytes: answers every line that has ended, and puts the partial one behind
+// them, clipped, to the front of the text. The memory is tested once, and each table gets an index.
 pub fn take_text(
     header: Header,
     lines: u64,
@@ -378,7 +379,7 @@ pub fn take_text(
     if !piece_fits(filled, text.len(), out.len()) {
         return unfit(header, lines, filled);
     }
-    let known = is_safe(
+    let prepared = is_safe(
         header,
         mandates,
         collections,
@@ -390,7 +391,7 @@ pub fn take_text(
     let mandate_index = index_rows(mandates, header.mandates);
     let collection_index = index_rows(collections, header.collections);
     let done = take_lines(
-        known,
+        prepared,
         header,
         lines,
         &text[..filled],
@@ -406,12 +407,12 @@ pub fn take_text(
     );
     let after = done.header;
     let at = done.at;
-    let begun = keep_begun(text, at, filled);
+    let partial = keep_partial(text, at, filled);
     Piece {
         answer: Answer::Accepted,
         header: after,
         lines: done.lines,
-        begun: begun,
-        told: done.told,
+        partial: partial,
+        written: done.written,
     }
 }

@@ -15,20 +15,20 @@ use Rattle.model.specs.Step.{answerNumber}
 use Rattle.witness.specs.Opening.{lent}
 use Rattle.witness.proofs.Ruled.{ruledAnswer, ruledRun, lent-sizes, opened-run, opened-answer}
 use Rattle.thirteen.specs.Thirteen.{events, said, Question, Row, table, Agree, Thirteen}
-use Rattle.thirteen.specs.Thirteen.Question.{Easter, Kept, Months, Answer, Cents}
+use Rattle.thirteen.specs.Thirteen.Question.{Easter, KeptFor, Months, Answer, Cents}
 
 -- ---- the answers by the rules alone, which compute
 
 abbrev computed : Question → ℕ
 computed (Easter year) = said (Easter year)
-computed (Kept requested) = said (Kept requested)
+computed (KeptFor requested) = said (KeptFor requested)
 computed (Months n date) = said (Months n date)
 computed (Answer e) = answerNumber (ruledAnswer (ruledRun (fresh lent) events) e)
 computed (Cents amount rate days) = said (Cents amount rate days)
 
 said-computed : (q : Question) → said q ≡ computed q
 said-computed (Easter year) = refl
-said-computed (Kept requested) = refl
+said-computed (KeptFor requested) = refl
 said-computed (Months n date) = refl
 said-computed (Answer e) = ap answerNumber (opened-answer lent lent-sizes events e)
 said-computed (Cents amount rate days) = refl

@@ -66,7 +66,7 @@ collection = record {
 
 pub data Question : Type 0 where
   Easter : ℕ → Question  -- of a year
-  Kept : ℕ → Question  -- the kept due of a requested date
+  KeptFor : ℕ → Question  -- the kept due of a requested date
   Months : ℕ → ℕ → Question  -- a number of them after a date
   Answer : Event → Question  -- of the ledger, to an event
   Cents : ℕ → ℕ → ℕ → Question  -- K of an amount, a rate and days
@@ -88,7 +88,7 @@ collect date due = Answer (event 5 date 7 71 0 0 10000 due 1)
 -- what the definitions say
 abbrev pub said : Question → ℕ
 said (Easter year) = dateFound (easterOf year)
-said (Kept requested) = keptDue requested
+said (KeptFor requested) = keptDue requested
 said (Months n date) = dateFound (monthsAfter (record { 0 = n }) date)
 said (Answer e) = answerNumber (answer book e)
 said (Cents amount rate days) = compensationFor amount rate days
@@ -105,7 +105,7 @@ row q p = record { question = q; paper = p }
 unfoldable pub table : List Row
 table =
     row (Easter 2024) 20240331
-    ∷ row (Kept 20240329) 20240402
+    ∷ row (KeptFor 20240329) 20240402
     ∷ row (return 20240409) 0
     ∷ row (return 20240410) 17
     ∷ row (authorised 20240530) 0
@@ -134,7 +134,7 @@ questionsOf (r ∷ rs) = r .question ∷ questionsOf rs
 abbrev pub questions : List Question
 questions =
     Easter 2024
-    ∷ Kept 20240329
+    ∷ KeptFor 20240329
     ∷ Answer (event 8 20240409 0 70 0 0 0 0 0)
     ∷ Answer (event 8 20240410 0 70 0 0 0 0 0)
     ∷ Answer (event 9 20240530 0 70 360 0 0 0 0)

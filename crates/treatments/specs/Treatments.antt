@@ -12,7 +12,7 @@ use Rattle.refusals.specs.declared.Refusal.the-variants.{UnfitMemory, BeforeLat
 use Rattle.calendar.specs.Periods.{daysBetween}
 use Rattle.calendar.specs.declared.DaysAnswer.{DaysAnswer}
 use Rattle.calendar.specs.declared.DaysAnswer.the-variants.{Days, NoDays}
-use Rattle.positions.specs.Positions.{positionLimit, isEntry, position, within}
+use Rattle.positions.specs.Positions.{positionLimit, hasEntry, position, inLimit}
 use Rattle.positions.specs.Compensation.{compensationOf}
 use Rattle.positions.specs.Answers.{settlementOf, reversedOf, refundedOf}
 use Rattle.positions.specs.declared.CompensationAnswer.{CompensationAnswer}
@@ -34,7 +34,7 @@ use Rattle.model.specs.declared.Treatment.the-variants.{Settle, Reject, Undo}
 use Rattle.model.specs.Checks.{settledOn, dayTreated, stateFits, dueTreated, timeTreated}
 use Rattle.model.specs.Effects.{dated, keepCollection, withPostings, treated}
 use Rattle.checking.specs.declared.Outcome.{Outcome}
-use Rattle.checking.specs.Calls.{usedRow, rowIn, Done}
+use Rattle.checking.specs.Calls.{usedRow, foundRow, Done}
 use Rattle.treatments.specs.declared.verdicts.Verdict.{Verdict}
 use Rattle.treatments.specs.declared.verdicts.Verdict.the-variants.{Refuse, Mark, Post}
 
@@ -100,9 +100,9 @@ verdictOn latest date t there k = byAnswer (treatJudged latest date t there k) (
 abbrev pub held : List ℤ → ℕ → ℤ → Bool
 held positions number amount =
     allOf
-    (isEntry positions number
-    ∷ within positionLimit (position positions number)
-    ∷ within positionLimit amount
+    (hasEntry positions number
+    ∷ inLimit positionLimit (position positions number)
+    ∷ inLimit positionLimit amount
     ∷ [])
 
 -- the amounts can be posted to the parties and banks of k; in a fit ledger they always can
@@ -113,8 +113,8 @@ postable k p total creditorPositions debtorPositions bankPositions =
     ∷ held debtorPositions (k .debtor) (p .debtor)
     ∷ held bankPositions (k .dbank) (p .dbank)
     ∷ held bankPositions (k .cbank) (p .cbank)
-    ∷ within positionLimit total
-    ∷ within positionLimit (p .compensation)
+    ∷ inLimit positionLimit total
+    ∷ inLimit positionLimit (p .compensation)
     ∷ [])
 
 abbrev pub payAnswer : Collection → Postings → Ledger → Answer
@@ -149,8 +149,8 @@ headerAfter h date cents = record {
 
 abbrev pub verdictAt : Found → Ledger → ℕ → Treatment → Verdict
 verdictAt found l date t =
-    verdictOn (l .latest) date t (usedRow (l .collections) (l .collectionsUsed) found) (collectionAt (l .collections) (rowIn found))
+    verdictOn (l .latest) date t (usedRow (l .collections) (l .collectionsUsed) found) (collectionAt (l .collections) (foundRow found))
 
 abbrev pub Treated : Found → Ledger → ℕ → Treatment → Outcome → Ledger → Type 0
 Treated found l date t r l' =
-    Done (answerFor (verdictAt found l date t) l) l (effectFor (verdictAt found l date t) (rowIn found) date l) r l'
+    Done (answerFor (verdictAt found l date t) l) l (effectFor (verdictAt found l date t) (foundRow found) date l) r l'

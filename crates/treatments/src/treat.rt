@@ -3,7 +3,7 @@ ghost use mathlib.Core.Bool.{true};
 ghost use mathlib.Core.Path.{_≡_};
 ghost use mathlib.Core.List.{List};
 ghost use Prim.Native.Nat.{ℕ};
-ghost use Rattle.positions.specs.Positions.{within, positionLimit};
+ghost use Rattle.positions.specs.Positions.{inLimit, positionLimit};
 ghost use Rattle.tables.specs.Ledger.{ledger};
 ghost use Rattle.checking.specs.Calls.{Done};
 ghost use Rattle.treatments.specs.Treatments.{held, postable, headerAfter, payAnswer, payEffect, Treated};
@@ -11,8 +11,8 @@ use crate::verdicts::Verdict;
 use crate::verdicts::verdict_on;
 use checking::Outcome;
 use checking::dated_header;
+use checking::found_row;
 use checking::is_used;
-use checking::row_in;
 use model::Answer;
 use model::Treatment;
 use positions::Postings;
@@ -55,7 +55,7 @@ fn is_postable(
 
 // The header after an event of a date that adds cents to the total compensation.
 fn header_after(header: Header, date: u64, cents: i64) -> Header
-    requires { ⌜ (within positionLimit (header .compensation) ≡ true) × (within positionLimit cents ≡ true) ⌝ }
+    requires { ⌜ (inLimit positionLimit (header .compensation) ≡ true) × (inLimit positionLimit cents ≡ true) ⌝ }
     ensures { λ r. ⌜ r ≡ headerAfter header date cents ⌝ }
 {
     Header {
@@ -148,7 +148,7 @@ pub fn treat(
     ensures { λ r. ⌜ ((m c : List ℕ) → Treated found (ledger header m (now (collections .entry)) c (now («creditor_positions» .entry)) (now («debtor_positions» .entry)) (now («bank_positions» .entry))) date t r (ledger (r .header) m (now (collections .exit)) c (now («creditor_positions» .exit)) (now («debtor_positions» .exit)) (now («bank_positions» .exit)))) ⌝ }
 {
     let there = is_used(found, collections, header.collections);
-    let row = row_in(found);
+    let row = found_row(found);
     match verdict_on(
         header.latest,
         date,

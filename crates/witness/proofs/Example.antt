@@ -19,16 +19,16 @@ use Rattle.digits.specs.Field.{signedPadded, signedField, readDigits, readNumbe
 use Rattle.lines.specs.Line.{readLine}
 use Rattle.tables.specs.Limits.{creditorCount, debtorCount, bankCount}
 use Rattle.tables.specs.Ledger.{Ledger}
-use Rattle.opening.specs.Opening.{Outcome, opened}
+use Rattle.opening.specs.Opening.{OpenResult, opened}
 use Rattle.opening.proofs.Laws.Opening.{opening-done}
 use Rattle.model.specs.declared.QueryAnswer.the-variants.{Figure}
 use Rattle.model.specs.Step.{inQuery, figureOf, query, run, Entry, history}
 use Rattle.model.specs.Journal.{Journal, newNoted, collectedOn, notedCollection, noteCollect, notedSettled, noteSettle, noteRefund, paidOn, noteKind, journalFrom, journal, figureIn}
 use Rattle.model.proofs.Laws.Theorem.{demand3}
 use Rattle.report.specs.Layout.{answerLine, positionLine}
-use Rattle.run.specs.Run.{runAt, takeText, toldText, toldFigures, toldKind, toldPositions}
+use Rattle.run.specs.Run.{runAt, takeText, textOutput, figuresOutput, kindOutput, positionsOutput}
 use Rattle.witness.specs.Opening.{lent, answers}
-use Rattle.witness.specs.Text.{textOf, readOf, takenOf, written}
+use Rattle.witness.specs.Text.{textOf, readOf, takenOf, wholeOutput}
 use Rattle.witness.specs.Example.{input, output, events, numbers, positions, centsIn, Example}
 use Rattle.witness.proofs.Ruled.{ruledAnswer, ruledAnswers, lent-sizes, opened-answers, opened-fit, entries, history-answers}
 
@@ -103,34 +103,34 @@ figure-is kind number q =
 
 -- ---- the listing
 
-same-lines : (kind : ℕ) (f g : ℕ → ℤ) (n : ℕ) → ((i : ℕ) → i < n → f (suc i) ≡ g (suc i)) → toldFigures kind f n ≡ toldFigures kind g n
-unfolding toldFigures
+same-lines : (kind : ℕ) (f g : ℕ → ℤ) (n : ℕ) → ((i : ℕ) → i < n → f (suc i) ≡ g (suc i)) → figuresOutput kind f n ≡ figuresOutput kind g n
+unfolding figuresOutput
 same-lines kind f g zero h = refl
 same-lines kind f g (suc n) h =
     rw (same-lines kind f g n (λ i k. h i (omega arith)), h n (omega arith))
 
 -- the lines of a kind of parties
 lines-of : (kind count : ℕ) → ((n : ℕ) → 1 ≤ n → n ≤ count → inQuery kind n ≡ true)
-    → toldKind after-example kind count ≡ toldFigures kind (centsIn positions kind) count
+    → kindOutput after-example kind count ≡ figuresOutput kind (centsIn positions kind) count
 lines-of kind count q =
     same-lines kind (figureOf after-example kind) (centsIn positions kind) count
     (λ i k. figure-is kind (suc i) (q (suc i) (omega arith) (omega arith)))
 
 -- the lines of all positions are computed
 computed-lines :
-    toldFigures 1 (centsIn positions 1) creditorCount
-    ++ toldFigures 2 (centsIn positions 2) debtorCount
-    ++ toldFigures 3 (centsIn positions 3) bankCount
+    figuresOutput 1 (centsIn positions 1) creditorCount
+    ++ figuresOutput 2 (centsIn positions 2) debtorCount
+    ++ figuresOutput 3 (centsIn positions 3) bankCount
     ++ positionLine 4 0 (centsIn positions 4 0)
     ≡ textOf (drop (length numbers) output)
-unfolding toldFigures positionLine signedField signedPadded
+unfolding figuresOutput positionLine signedField signedPadded
 computed-lines = refl
 
 four : {a a' b b' c c' d d' : List ℕ} → a ≡ a' → b ≡ b' → c ≡ c' → d ≡ d' → a ++ b ++ c ++ d ≡ a' ++ b' ++ c' ++ d'
 four p q r s = rw (p, q, r, s)
 
-listed : toldPositions after-example ≡ textOf (drop (length numbers) output)
-unfolding toldPositions
+listed : positionsOutput after-example ≡ textOf (drop (length numbers) output)
+unfolding positionsOutput
 listed =
     let within : (count n : ℕ) → 1 ≤ n → n ≤ count → leb 1 n && leb n count ≡ true = λ count n a b. and-true (le-leb 1 n a) (le-leb n count b) in
     four
@@ -157,9 +157,9 @@ unfolding events computedRead
 reads = refl
 
 module _ (l : Ledger) where
-  told : toldText (runAt l 0 []) (textOf input) ≡ answerLines 1 (answers l events)
-  unfolding toldText events computedRead answers
-  told = refl
+  answers-output : textOutput (runAt l 0 []) (textOf input) ≡ answerLines 1 (answers l events)
+  unfolding textOutput events computedRead answers
+  answers-output = refl
 
   taken : takeText (runAt l 0 []) (textOf input) ≡ runAt (run l events) 7 []
   unfolding takeText events computedRead run
@@ -167,13 +167,13 @@ module _ (l : Ledger) where
 
 -- ---- the statement
 
-writes : written (opened lent) (textOf input) ≡ textOf output
+writes : wholeOutput (opened lent) (textOf input) ≡ textOf output
 unfolding answerLine signedField signedPadded
-writes = rw (told (opened lent), answered, taken (opened lent), listed)
+writes = rw (answers-output (opened lent), answered, taken (opened lent), listed)
 
 pub example : Example
 example = record {
-  opens = ap (λ (o : Outcome). o .number) (opening-done lent lent-sizes);
+  opens = ap (λ (o : OpenResult). o .number) (opening-done lent lent-sizes);
   reads = reads;
   answered = answered;
   figures = figures;

@@ -19,7 +19,7 @@ use Rattle.events.specs.declared.Event.{Event}
 use Rattle.events.specs.Limits.{table, rowOf, rowFits, fieldsFit, checked}
 use Rattle.tables.specs.Ledger.{Ledger, bankOf}
 use Rattle.tables.specs.Lookup.{lookup}
-use Rattle.tables.specs.Records.{mandateOf, collectionOf}
+use Rattle.tables.specs.Records.{mandateFrom, collectionFrom}
 use Rattle.tables.specs.Rows.{mandateAt, collectionAt, putRow}
 use Rattle.fitness.specs.Fitness.{sizesOf, sizesFit, fit}
 use Rattle.opening.specs.Opening.{fresh, opened}
@@ -27,7 +27,7 @@ use Rattle.opening.proofs.Laws.Opening.{opened-done}
 use Rattle.model.specs.declared.Answer.{Answer}
 use Rattle.model.specs.declared.Answer.the-variants.{Accepted, Refused}
 use Rattle.model.specs.Actions.{newMandate, actionOf}
-use Rattle.model.specs.Lookups as inLedger
+use Rattle.model.specs.Lookups.{mandateOf, collectionOf}
 use Rattle.model.specs.Deadlines.{keptDue, timely, lastDay, lapseEnd}
 use Rattle.model.specs.Checks.{ruled}
 use Rattle.model.specs.Effects.{changed, presentedOn, newCollection, treated, effect}
@@ -39,7 +39,7 @@ use Rattle.witness.specs.Opening.{lent, answers}
 -- ---- the rules alone; whoever unfolds one of these unfolds all that it is computed from
 
 unfoldable pub ruledAnswer : Ledger → Event → Answer
-unfolding leap leapDay monthLength isDate inRange daysBefore yearStart dayNumber yearAt monthAt dateIn dateAt dateOf computus easterSunday closedBy closed businessDay isOpen seek firstOpen openAfter lastOpenBefore firstBusinessDay lastBusinessDayBefore daysAfter businessDaysAfter monthCount dayOfMonthCount monthsAfter periodEnd firstFrom table rowOf rowFits fieldsFit checked bankOf lookup mandateOf collectionOf mandateAt collectionAt newMandate actionOf inLedger.mandateOf inLedger.collectionOf keptDue timely lastDay lapseEnd ruled
+unfolding leap leapDay monthLength isDate inRange daysBefore yearStart dayNumber yearAt monthAt dateIn dateAt dateOf computus easterSunday closedBy closed businessDay isOpen seek firstOpen openAfter lastOpenBefore firstBusinessDay lastBusinessDayBefore daysAfter businessDaysAfter monthCount dayOfMonthCount monthsAfter periodEnd firstFrom table rowOf rowFits fieldsFit checked bankOf lookup mandateFrom collectionFrom mandateAt collectionAt newMandate actionOf mandateOf collectionOf keptDue timely lastDay lapseEnd ruled
 ruledAnswer l e = thenRuled (checked e) (ruled l (e .date) (actionOf e))
 
 unfoldable pub ruledAfter : Ledger → Event → Ledger

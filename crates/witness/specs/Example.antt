@@ -11,7 +11,7 @@ use Rattle.opening.specs.Opening.{opening, opened}
 use Rattle.model.specs.declared.QueryAnswer.the-variants.{Figure}
 use Rattle.model.specs.Step.{inQuery, query, run}
 use Rattle.witness.specs.Opening.{event, lent, answers}
-use Rattle.witness.specs.Text.{textOf, readOf, takenOf, written}
+use Rattle.witness.specs.Text.{textOf, readOf, takenOf, wholeOutput}
 
 -- ---- the input and the output, as they are printed
 
@@ -93,4 +93,4 @@ pub record Example : Type 0 where
       (kind number : ℕ) → inQuery kind number ≡ true
       → query (run (opened lent) events) kind number ≡ Figure (centsIn positions kind number)
   -- the program writes the output for the input, byte for byte
-  pub writes : written (opened lent) (textOf input) ≡ textOf output
+  pub writes : wholeOutput (opened lent) (textOf input) ≡ textOf output

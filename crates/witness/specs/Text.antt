@@ -9,32 +9,32 @@ use Rattle.lines.specs.declared.line.LineAnswer.{LineAnswer}
 use Rattle.lines.specs.declared.line.LineAnswer.the-variants.{Taken}
 use Rattle.lines.specs.Line.{lineEnd, readLine}
 use Rattle.tables.specs.Ledger.{Ledger}
-use Rattle.run.specs.Run.{runAt, takeText, toldText, endText, toldEnd, toldPositions}
+use Rattle.run.specs.Run.{runAt, takeText, textOutput, endText, endOutput, positionsOutput}
 
 -- a byte for each character, of those below 128
-abbrev pub bytesOf : String → List ℕ
-bytesOf noText = []
-bytesOf (c then s) = code c ∷ bytesOf s
+abbrev pub asciiOf : String → List ℕ
+asciiOf noText = []
+asciiOf (c then s) = code c ∷ asciiOf s
 
-abbrev pub lineOf : String → List ℕ
-lineOf s = bytesOf s ++ (lineEnd ∷ [])
+abbrev pub lineWith : String → List ℕ
+lineWith s = asciiOf s ++ (lineEnd ∷ [])
 
 abbrev pub textOf : List String → List ℕ
 textOf [] = []
-textOf (s ∷ rest) = lineOf s ++ textOf rest
+textOf (s ∷ rest) = lineWith s ++ textOf rest
 
 -- what the reader makes of each line
 abbrev pub readOf : List String → List LineAnswer
 readOf [] = []
-readOf (s ∷ rest) = readLine (lineOf s) ∷ readOf rest
+readOf (s ∷ rest) = readLine (lineWith s) ∷ readOf rest
 
 abbrev pub takenOf : List Event → List LineAnswer
 takenOf [] = []
 takenOf (e ∷ es) = Taken e ∷ takenOf es
 
 -- an answer for each line, for one without its end too, and then the positions
-abbrev pub written : Ledger → List ℕ → List ℕ
-written l text =
-    toldText (runAt l 0 []) text
-    ++ toldEnd (takeText (runAt l 0 []) text)
-    ++ toldPositions (endText (takeText (runAt l 0 []) text) .book)
+abbrev pub wholeOutput : Ledger → List ℕ → List ℕ
+wholeOutput l text =
+    textOutput (runAt l 0 []) text
+    ++ endOutput (takeText (runAt l 0 []) text)
+    ++ positionsOutput (endText (takeText (runAt l 0 []) text) .book)

@@ -9,7 +9,7 @@ use Rattle.common.proofs.Tests.{never}
 use Rattle.calendar.specs.Gregorian.{leap, leapDay, monthLength, isDate, inRange, lastDate}
 use Rattle.calendar.specs.DayNumber.{calendarDays, daysBefore, yearStart, dayNumber, dayOf, inCalendar, dateAt, dateOf}
 use Rattle.calendar.specs.Easter.{computus, easterSunday}
-use Rattle.calendar.specs.Target.{closedBy, closed, businessDay, isOpen, firstOpen, lastOpenBefore, dated, firstBusinessDay, lastBusinessDayBefore}
+use Rattle.calendar.specs.Target.{closedBy, closed, businessDay, isOpen, firstOpen, lastOpenBefore, answerDate, firstBusinessDay, lastBusinessDayBefore}
 use Rattle.calendar.specs.declared.DayAnswer.the-variants.{Day, NoDay}
 use Rattle.calendar.specs.declared.DateAnswer.the-variants.{Date, NoDate}
 use Rattle.calendar.proofs.Laws.Gregorian.{range-facts, in-range}
@@ -20,23 +20,23 @@ use Rattle.calendar.proofs.Laws.BusinessDays.{firstOpen-first, firstOpe
 
 -- ---- dated
 
-dated-case : (b : Bool) (n : ℕ) → ltb n calendarDays ≡ b → dated (cond b (Day n) NoDay) ≡ dateOf n
+answerDate-case : (b : Bool) (n : ℕ) → ltb n calendarDays ≡ b → answerDate (cond b (Day n) NoDay) ≡ dateOf n
 unfolding dateOf
-dated-case true n e = refl
-dated-case false n e = rw e
+answerDate-case true n e = refl
+answerDate-case false n e = rw e
 
-pub dated-inCalendar : (n : ℕ) → dated (inCalendar n) ≡ dateOf n
+pub answerDate-inCalendar : (n : ℕ) → answerDate (inCalendar n) ≡ dateOf n
 unfolding inCalendar
-dated-inCalendar n = dated-case (ltb n calendarDays) n refl
+answerDate-inCalendar n = answerDate-case (ltb n calendarDays) n refl
 
 -- ---- firstBusinessDay
 
 -- by the answer for the date's day
-pub firstBusinessDay-day : (x n : ℕ) → dayOf x ≡ Day n → firstBusinessDay x ≡ dated (inCalendar (firstOpen n))
+pub firstBusinessDay-day : (x n : ℕ) → dayOf x ≡ Day n → firstBusinessDay x ≡ answerDate (inCalendar (firstOpen n))
 unfolding firstBusinessDay
 firstBusinessDay-day x n e =
     let p = dayOf-day x n e in
-    rw (p .0, p .1) (sym (dated-inCalendar (firstOpen (dayNumber x))))
+    rw (p .0, p .1) (sym (answerDate-inCalendar (firstOpen (dayNumber x))))
 
 pub firstBusinessDay-none : (x : ℕ) → dayOf x ≡ NoDay → firstBusinessDay x ≡ NoDate
 unfolding firstBusinessDay
@@ -106,7 +106,7 @@ kept-in-range x r =
 
 -- ---- lastBusinessDayBefore
 
-pub lastBusinessDay-day : (x n : ℕ) → dayOf x ≡ Day n → lastBusinessDayBefore x ≡ dated (lastOpenBefore n)
+pub lastBusinessDay-day : (x n : ℕ) → dayOf x ≡ Day n → lastBusinessDayBefore x ≡ answerDate (lastOpenBefore n)
 unfolding lastBusinessDayBefore
 lastBusinessDay-day x n e = let p = dayOf-day x n e in rw (p .0, p .1)
 

@@ -25,7 +25,7 @@ use Rattle.events.specs.declared.limits.RowAnswer.{RowAnswer}
 use Rattle.events.specs.declared.limits.RowAnswer.the-variants.{Found, NoRow}
 use Rattle.events.specs.declared.limits.Checked.{Checked}
 use Rattle.events.specs.declared.limits.Checked.the-variants.{Within, Refused}
-use Rattle.events.specs.Limits.{within, table, noRow, row, rowIn, rowOf, secondFits, rowFits, answerFits, fieldsFit, checked, kinds, unnamed, creditor, debtor, bank, number, cents, rate, mandateCodes, sequenceCodes, refundCodes, lastKind, only}
+use Rattle.events.specs.Limits.{within, table, noRow, row, rowIn, rowOf, secondFits, rowFits, rowAnswerFits, fieldsFit, checked, kinds, unnamed, creditor, debtor, bank, number, cents, rate, mandateCodes, sequenceCodes, refundCodes, lastKind, only}
 
 -- ---- ranges
 
@@ -261,7 +261,7 @@ record Looked (x : RowAnswer) (e : Event) : Type 0 where
   found : x ≡ Found limits
   fits : Fits limits e
 
-answer-looked : (x : RowAnswer) (e : Event) → answerFits x e ≡ true → Looked x e
+answer-looked : (x : RowAnswer) (e : Event) → rowAnswerFits x e ≡ true → Looked x e
 answer-looked NoRow e t = absurd (never t refl)
 answer-looked (Found r) e t = record { limits = r; found = refl; fits = row-facts r e t }
 

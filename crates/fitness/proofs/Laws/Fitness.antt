@@ -30,10 +30,10 @@ use Rattle.tables.specs.declared.Undoing.the-variants.{Return, Refund, Reversal
 use Rattle.tables.specs.Limits.{creditorCount, debtorCount, bankCount, numberLimit, amountLimit, mandateRowLimit, collectionRowLimit, stride, positionLimit}
 use Rattle.tables.specs.MandateColumn
 use Rattle.tables.specs.CollectionColumn
-use Rattle.tables.specs.Records.{standingTag, flagCell, mandateCells, mandateOf, stateTag, stateDay, stateOf, collectionCells, collectionOf}
+use Rattle.tables.specs.Records.{standingTag, flagCell, mandateCells, mandateFrom, stateTag, stateDay, stateOf, collectionCells, collectionFrom}
 use Rattle.tables.specs.Rows.{rows, rowAt, putRow, mandateAt, putMandate, collectionAt, putCollection}
 use Rattle.tables.specs.Ledger.{Ledger, bankOf, added}
-use Rattle.fitness.specs.Fitness.{within, noneOrDate, positionFit, compensationFit, isZero, rowCountFit, sizeTests, sizesOf, sizesFit, headerTests, headerOf, headerFit, rowFit, rowsFit, mandateTests, mandateFit, dayFit, collectionTests, collectionFit, creditorTests, creditorFit, creditorFitAt, creditorsFit, positionFitAt, positionsFit, contentTests, fit}
+use Rattle.fitness.specs.Fitness.{isFromTo, noneOrDate, positionFit, compensationFit, isZero, rowCountFit, sizeTests, sizesOf, sizesFit, headerTests, headerOf, headerFit, rowFit, rowsFit, mandateTests, mandateFit, dayFit, collectionTests, collectionFit, creditorTests, creditorFit, creditorFitAt, creditorsFit, positionFitAt, positionsFit, contentTests, fit}
 use Rattle.tables.proofs.Laws.Rows.{rowAt-put-same, rowAt-put-other}
 use Rattle.tables.proofs.Laws.Ledger.{bankOf-zero, bankOf-at, bankOf-past, added-set}
 
@@ -43,12 +43,12 @@ pub record Within (low high x : ℕ) : Type 0 where
   pub from : low ≤ x
   pub to : x ≤ high
 
-pub within-facts : (low high x : ℕ) → within low high x ≡ true → Within low high x
+pub within-facts : (low high x : ℕ) → isFromTo low high x ≡ true → Within low high x
 within-facts low high x e =
     let p = and-halves (leb low x) e in
     record { from = leb-true low x (p .0); to = leb-true x high (p .1) }
 
-pub within-made : (low high x : ℕ) → Within low high x → within low high x ≡ true
+pub within-made : (low high x : ℕ) → Within low high x → isFromTo low high x ≡ true
 within-made low high x w = and-true (le-leb low x (w .from)) (le-leb x high (w .to))
 
 -- a position lies within the limit on either side
@@ -237,10 +237,10 @@ flag-fit : (b : Bool) → leb (flagCell b) 1 ≡ true
 flag-fit true = refl
 flag-fit false = refl
 
-pub mandate-facts : (creditors fields : List ℕ) → mandateFit creditors fields ≡ true → MandateFit creditors (mandateOf fields)
-unfolding mandateFit mandateOf
+pub mandate-facts : (creditors fields : List ℕ) → mandateFit creditors fields ≡ true → MandateFit creditors (mandateFrom fields)
+unfolding mandateFit mandateFrom
 mandate-facts creditors fields e =
-    let m = mandateOf fields in
+    let m = mandateFrom fields in
     let at : (k : ℕ) → getD (mandateTests creditors fields) k true ≡ true = λ k. allOf-at (mandateTests creditors fields) k e in
     record {
       number-fit = within-facts 1 numberLimit (m .number) (at 0);
@@ -316,10 +316,10 @@ tag-fit (Undone day Reversal) = refl
 
 pub collection-facts :
     (latest : ℕ) (creditors fields : List ℕ) → collectionFit latest creditors fields ≡ true
-    → CollectionFit latest creditors (collectionOf fields)
-unfolding collectionFit collectionOf
+    → CollectionFit latest creditors (collectionFrom fields)
+unfolding collectionFit collectionFrom
 collection-facts latest creditors fields e =
-    let c = collectionOf fields in
+    let c = collectionFrom fields in
     let at : (k : ℕ) → getD (collectionTests latest creditors fields) k true ≡ true = λ k. allOf-at (collectionTests latest creditors fields) k e in
     record {
       number-fit = within-facts 1 numberLimit (c .number) (at 0);

@@ -1,24 +1,32 @@
--- Laws of specs/Input. To cite: `behind-read`; `turned-made`, `turned-told`; `turns-left`, `taken-none`, `taken-on`. Assumes nothing.
-use mathlib.Core.Path.{_≡_, refl, sym, ap, _∙_}
-use mathlib.Core.Bool.{Bool, true, _&&_}
+-- Laws of specs/Input. To cite: `fill-some`, `fill-none`; `turned-made`, `turned-output`; `turns-left`, `taken-none`, `taken-on`. Assumes nothing.
+use mathlib.Core.Path.{_≡_, refl, sym, ap, _∙_, subst}
+use mathlib.Core.Bool.{Bool, true, false, not, _&&_, _||_}
 use mathlib.Core.List.{List, [], _++_}
 use Prim.Native.Nat.{ℕ, _+_, _-_, _/_, _≤_, _<_}
+use native.Mathlib.Nat.{zero-add}
 use native.Mathlib.Omega.{arith}
-use borrow.Author.Tests.{le-leb, ltb-true}
-use borrow.Rule.Slice.PartMut.{putMid, take-put}
-use lib.Dec.{ltb}
+use borrow.Author.Tests.{le-leb, ltb-true, ltb-false}
+use lib.Dec.{leb, ltb}
 use lib.ListN.{length, take, drop, length-append}
-use lib.Seq.{take-add, take-append-seam}
-use Rattle.common.proofs.Tests.{and-halves}
+use lib.Seq.{take-add, take-append-seam, drop-nil}
+use Rattle.common.proofs.Tests.{not-true, and-halves}
 use Rattle.digits.specs.Field.{pasted}
 use Rattle.tables.specs.Ledger.{Ledger}
-use Rattle.report.specs.Layout.{answerLength}
+use Rattle.report.specs.Layout.{lastNumber, answerLength}
 use Rattle.run.specs.Run.{Run, runAt, takeText}
-use Rattle.run.proofs.Laws.Run.{piece-by-piece}
+use Rattle.report.proofs.Laws.Cut.{Endless}
+use Rattle.run.specs.Lines.{linesFrom, answeredLines}
+use Rattle.run.proofs.Laws.Run.{partial-none, partial-text, piece-by-piece}
+use Rattle.run.proofs.Laws.Lines.{line-by-line}
+use Rattle.listing.specs.Past.{linesPast, goesPast}
+use Rattle.listing.proofs.Laws.Past.{past-next}
+use Rattle.streams.specs.declared.Got.{Got}
+use Rattle.streams.specs.declared.Got.the-variants.{Bytes}
+use Rattle.streams.specs.Streams.{Inside, ReadBehind}
 use Rattle.text.specs.declared.text.Piece.{Piece}
-use Rattle.text.specs.Text.{pieceFits, pieceRun, pieceTold, PieceTaken}
-use Rattle.ledger.specs.declared.Progress.{Progress}
-use Rattle.ledger.specs.Input.{Behind, Given, Turned, Taken}
+use Rattle.text.specs.Text.{pieceFits, pieceRun, pieceOutput, PieceTaken}
+use Rattle.ledger.specs.declared.Stage.{Stage}
+use Rattle.ledger.specs.Input.{Behind, Given, passes, Turned, InputTaken}
 
 -- ---- bytes at the front of others
 
@@ -27,22 +35,22 @@ front-length x out = omega (arith, length-append x (drop (0 + length x) out))
 
 -- ---- a read
 
--- the part of the text from `begun` on was lent and came back
-pub behind-read : (begun got : ℕ) (text part : List ℕ)
-    → begun ≤ length text
-    → length (putMid begun (length text - begun) text part) ≡ length text
-    → begun + got ≤ length text
-    → Behind begun text (begun + got) (putMid begun (length text - begun) text part)
-behind-read begun got text part h e k =
-    record { front = take-put begun (length text - begun) text part h; onward = omega arith; inside = omega arith }
+-- bytes, or none
+pub fill-some : (partial n : ℕ) (text : List ℕ) (got : Got) (text' : List ℕ) → got ≡ Bytes n → ReadBehind partial text got text' → Behind partial text (partial + n) text'
+fill-some partial n text got text' e r =
+    let i : Inside partial (length text') (Bytes n) = subst (Inside partial (length text')) e (r .inside) in
+    record { front = r .front; onward = omega arith; inside = i .inside }
+
+pub fill-none : (partial : ℕ) (text : List ℕ) (got : Got) (text' : List ℕ) → partial ≤ length text → length text' ≡ length text → ReadBehind partial text got text' → Behind partial text partial text'
+fill-none partial text got text' h e r = record { front = r .front; onward = omega arith; inside = omega (arith, h, e) }
 
 -- ---- a turn
 
-abbrev progressOf : Piece → Progress → Progress
-progressOf piece p =
-    record { header = piece .header; lines = piece .lines; begun = piece .begun; told = piece .told; heard = p .heard }
+abbrev stageOf : Piece → Bool → Bool → Stage
+stageOf piece past whole =
+    record { header = piece .header; lines = piece .lines; partial = piece .partial; written = piece .written; beyond = past; whole = whole }
 
-module _ (l : Ledger) (p : Progress) (filled : ℕ) (text out : List ℕ) where
+module _ (l : Ledger) (p : Stage) (filled : ℕ) (text out : List ℕ) where
   module _ (g : Given filled text out) where
     fits : pieceFits filled text out ≡ true
     fits =
@@ -53,77 +61,131 @@ module _ (l : Ledger) (p : Progress) (filled : ℕ) (text out : List ℕ) where
       abbrev s : Run
       s = pieceRun l (p .lines) filled text
 
-      begun-is : piece .begun ≡ length (s .begun)
-      begun-is = rw fits at (t .told .begun-is)
+      partial-is : piece .partial ≡ length (s .partial)
+      partial-is = rw fits at (t .advanced .partial-is)
 
-      text-is : text' ≡ pasted 0 (s .begun) text
+      text-is : text' ≡ pasted 0 (s .partial) text
       text-is = rw fits at (t .text-is)
 
-      front-is : take (piece .begun) text' ≡ s .begun
-      front-is = rw (begun-is, text-is) (take-append-seam (s .begun) (drop (0 + length (s .begun)) text))
+      front-is : take (piece .partial) text' ≡ s .partial
+      front-is = rw (partial-is, text-is) (take-append-seam (s .partial) (drop (0 + length (s .partial)) text))
 
-      run-is : runAt l' (piece .lines) (take (piece .begun) text') ≡ s
+      run-is : runAt l' (piece .lines) (take (piece .partial) text') ≡ s
       run-is =
-          let book : l' ≡ s .book = rw fits at (t .told .book-is) in
-          let lines : piece .lines ≡ s .lines = rw fits at (t .told .lines-are) in
+          let book : l' ≡ s .book = rw fits at (t .advanced .book-is) in
+          let lines : piece .lines ≡ s .lines = rw fits at (t .advanced .lines-are) in
           rw (book, lines, front-is) refl
 
-      pub turned-made : Turned l p filled text out (progressOf piece p) l' text' out'
-      turned-made =
+      past-is : (over : ℕ) (past : Bool)
+          → over ≡ linesPast (p .lines) (take filled text)
+          → past ≡ goesPast over (piece .lines) (piece .partial)
+          → past ≡ passes (p .lines) (take filled text) s
+      past-is over past o e =
+          e
+          ∙ ap (λ (n : ℕ). goesPast n (piece .lines) (piece .partial)) o
+          ∙ ap (λ (n : ℕ). goesPast (linesPast (p .lines) (take filled text)) n (piece .partial)) (rw fits at (t .advanced .lines-are))
+          ∙ ap (goesPast (linesPast (p .lines) (take filled text)) (s .lines)) partial-is
+
+      pub turned-made : (over : ℕ) (past whole : Bool)
+          → over ≡ linesPast (p .lines) (take filled text)
+          → past ≡ goesPast over (piece .lines) (piece .partial)
+          → Turned l p filled text out (stageOf piece past whole) l' text' out'
+      turned-made over past whole o e =
           record {
             run-is = run-is;
-            begun-is = begun-is;
+            partial-is = partial-is;
             text-is = text-is;
-            told-is = rw fits at (t .told .told-is);
-            out-is = rw fits at (t .told .out-is);
-            heard-is = refl;
+            written-is = rw fits at (t .advanced .written-is);
+            out-is = rw fits at (t .advanced .out-is);
+            past-is = past-is over past o e;
           }
 
-  module _ (r : Progress) (l' : Ledger) (text' out' : List ℕ) (t : Turned l p filled text out r l' text' out') where
-    -- the line that has begun and the answers are where they are said to be
-    pub turned-begun : r .begun ≤ length text'
-    turned-begun =
-        omega (arith, t .begun-is, ap length (t .text-is), front-length (pieceRun l (p .lines) filled text .begun) text)
+  module _ (r : Stage) (l' : Ledger) (text' out' : List ℕ) (t : Turned l p filled text out r l' text' out') where
+    -- the partial line and the answers are where they are said to be
+    pub turned-partial : r .partial ≤ length text'
+    turned-partial =
+        omega (arith, t .partial-is, ap length (t .text-is), front-length (pieceRun l (p .lines) filled text .partial) text)
 
-    pub turned-told : r .told ≤ length out'
-    turned-told = omega (arith, t .told-is, ap length (t .out-is), front-length (pieceTold l (p .lines) filled text) out)
+    pub turned-output : r .written ≤ length out'
+    turned-output = omega (arith, t .written-is, ap length (t .out-is), front-length (pieceOutput l (p .lines) filled text) out)
 
 -- ---- the whole input
 
--- the loop's test
-pub turns-left : (turns : ℕ) (more heard : Bool) → (ltb 0 turns && more) && heard ≡ true → 0 < turns
-turns-left turns more heard e = ltb-true 0 turns (and-halves (ltb 0 turns) (and-halves (ltb 0 turns && more) e .0) .0)
+or-false : (a b : Bool) → a || b ≡ false → a ≡ false
+or-false true b e = e
+or-false false b e = refl
 
-pub taken-none : (l : Ledger) (text : List ℕ) → Taken (runAt l 0 []) l 0 0 text
-unfolding takeText
-taken-none l text = record { input = []; run-is = refl; inside = omega arith }
+none-of : (n : ℕ) → ltb 0 n ≡ false → n ≡ 0
+none-of n e = omega (arith, ltb-false 0 n e)
+
+-- the loop's test
+pub turns-left : (turns : ℕ) (more : Bool) → ltb 0 turns && more ≡ true → 0 < turns
+turns-left turns more e = ltb-true 0 turns (and-halves (ltb 0 turns) e .0)
+
+pub more-left : (turns : ℕ) (more : Bool) → ltb 0 turns && more ≡ true → more ≡ true
+more-left turns more e = and-halves (ltb 0 turns) e .1
+
+-- what the loop's next test says of the input
+pub not-past : (more going past whole : Bool) → more ≡ (going && not past) && whole → more ≡ true → past ≡ false
+not-past more going past whole e t =
+    not-true (and-halves going (and-halves (going && not past) (sym e ∙ t) .0) .1)
+
+nothing-past : (m : ℕ) → false ≡ ltb 0 (length (drop {A = List ℕ} m [])) || (leb lastNumber 0 && false)
+nothing-past m = rw (drop-nil {A = List ℕ} m)
+
+pub taken-none : (l : Ledger) (text : List ℕ) → InputTaken (runAt l 0 []) l 0 0 false text
+unfolding takeText linesFrom
+taken-none l text = record { input = []; run-is = refl; inside = omega arith; past-is = nothing-past (lastNumber - 0) }
 
 -- a read and its turn
-module _ (l₀ l : Ledger) (p : Progress) (text : List ℕ) (a : Taken (runAt l₀ 0 []) l (p .lines) (p .begun) text) where
-  module _ (filled : ℕ) (text' : List ℕ) (b : Behind (p .begun) text filled text') where
+module _ (l₀ l : Ledger) (p : Stage) (text : List ℕ) (a : InputTaken (runAt l₀ 0 []) l (p .lines) (p .partial) (p .beyond) text) where
+  module _ (filled : ℕ) (text' : List ℕ) (b : Behind (p .partial) text filled text') where
     -- the bytes that were read
     abbrev bytes : List ℕ
-    bytes = take (filled - p .begun) (drop (p .begun) text')
+    bytes = take (filled - p .partial) (drop (p .partial) text')
 
-    given-is : take filled text' ≡ take (p .begun) text ++ bytes
+    given-is : take filled text' ≡ take (p .partial) text ++ bytes
     given-is =
-        let m : filled ≡ p .begun + (filled - p .begun) = omega (arith, b .onward) in
+        let m : filled ≡ p .partial + (filled - p .partial) = omega (arith, b .onward) in
         ap (λ (k : ℕ). take k text') m
-        ∙ take-add (p .begun) (filled - p .begun) text'
+        ∙ take-add (p .partial) (filled - p .partial) text'
         ∙ ap (λ (x : List ℕ). x ++ bytes) (b .front)
 
     piece-is : pieceRun l (p .lines) filled text' ≡ takeText (runAt l₀ 0 []) (a .input ++ bytes)
     piece-is =
         ap (takeText (runAt l (p .lines) [])) given-is
-        ∙ ap (λ (r : Run). takeText (runAt (r .book) (r .lines) []) (r .begun ++ bytes)) (a .run-is)
+        ∙ ap (λ (r : Run). takeText (runAt (r .book) (r .lines) []) (r .partial ++ bytes)) (a .run-is)
         ∙ sym (piece-by-piece l₀ 0 (a .input) bytes .after)
 
-    pub taken-on : (out : List ℕ) (r : Progress) (l' : Ledger) (text'' out' : List ℕ)
-        → Turned l p filled text' out r l' text'' out'
-        → Taken (runAt l₀ 0 []) l' (r .lines) (r .begun) text''
-    taken-on out r l' text'' out' t =
-        record {
-          input = a .input ++ bytes;
-          run-is = t .run-is ∙ piece-is;
-          inside = turned-begun l p filled text' out r l' text'' out' t;
-        }
+    module _ (going : p .beyond ≡ false) where
+      few : linesPast 0 (a .input) ≡ 0
+      few =
+          none-of (linesPast 0 (a .input)) (or-false (ltb 0 (linesPast 0 (a .input))) _ (sym (a .past-is) ∙ going))
+
+      lines-are : p .lines ≡ length (answeredLines 0 (a .input))
+      lines-are =
+          ap (λ (r : Run). r .lines) (a .run-is)
+          ∙ line-by-line l₀ 0 (a .input) .count
+          ∙ zero-add (length (answeredLines 0 (a .input)))
+
+      endless : Endless (take (p .partial) text)
+      endless =
+          let h = partial-text (a .input) (runAt l₀ 0 []) (partial-none l₀ 0) in
+          subst Endless (sym (ap (λ (r : Run). r .partial) (a .run-is))) (h .endless)
+
+      same-past : passes (p .lines) (take filled text') (pieceRun l (p .lines) filled text') ≡ passes 0 (a .input ++ bytes) (takeText (runAt l₀ 0 []) (a .input ++ bytes))
+      same-past =
+          ap (passes (p .lines) (take filled text')) piece-is
+          ∙ ap (λ (x : List ℕ). passes (p .lines) x (takeText (runAt l₀ 0 []) (a .input ++ bytes))) given-is
+          ∙ ap (λ (n : ℕ). goesPast n (takeText (runAt l₀ 0 []) (a .input ++ bytes) .lines) (length (takeText (runAt l₀ 0 []) (a .input ++ bytes) .partial))) (past-next (a .input) few (p .lines) (take (p .partial) text) bytes lines-are endless)
+
+      pub taken-on : (out : List ℕ) (r : Stage) (l' : Ledger) (text'' out' : List ℕ)
+          → Turned l p filled text' out r l' text'' out'
+          → InputTaken (runAt l₀ 0 []) l' (r .lines) (r .partial) (r .beyond) text''
+      taken-on out r l' text'' out' t =
+          record {
+            input = a .input ++ bytes;
+            run-is = t .run-is ∙ piece-is;
+            inside = turned-partial l p filled text' out r l' text'' out' t;
+            past-is = t .past-is ∙ same-past;
+          }

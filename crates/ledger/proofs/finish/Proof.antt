@@ -1,6 +1,6 @@
 -- `finish` meets its contract: the memory is fit and the buffer has room, so the answer is written, and the listing behind it.
 -- Assumes nothing.
-use Rattle.ledger.proofs.Laws.Program.{last-inside, last-total, finished-made, finished-told}
+use Rattle.ledger.proofs.Laws.Program.{last-inside, last-total, finished-made, finished-output}
 use native.Mathlib.Omega.{arith}
 use borrow.Author.Needs.{needs}
 use Rattle.ledger.proofs.finish.Statement.{statement}
@@ -23,24 +23,32 @@ list-positions-requires c κs = search needs
 
 add-bytes : tie.Need-add-bytes
 add-bytes c =
-    let s = c .before .before .before .before .before .before .before .before .before .before .before .before .before .before in
     let end = c .before .before .before .before .before .before .before .end-text in
-    omega (arith, last-total _ _ _ _ (s .pre) _ _ (end .ensures) (end .kept .1 .1 .0) _ _ (c .before .before .before .list-positions .ensures))
+    omega (arith, last-total _ _ _ _ (c .before .before .before .before .before .before .before .before .before .before .before .before .before .before .pre) _ _ (end .ensures) (end .kept .1 .1 .0) _ _ (c .before .before .before .list-positions .ensures))
 
-tell-requires : tie.Need-tell-requires
-tell-requires c κs =
-    let s = c .before .before .before .before .before .before .before .before .before .before .before .before .before .before .before in
+send-requires : tie.Need-send-requires
+send-requires c κs =
     let end = c .before .before .before .before .before .before .before .before .end-text in
-    finished-told _ _ _ _ _ _ (finished-made _ _ _ _ (s .pre) _ _ (end .ensures) (end .kept .1 .1 .0) _ _ (c .before .before .before .before .list-positions .ensures))
+    finished-output _ _ _ _ _ _ (finished-made _ _ _ _ (c .before .before .before .before .before .before .before .before .before .before .before .before .before .before .before .pre) _ _ (end .ensures) (end .kept .1 .1 .0) _ _ (c .before .before .before .before .list-positions .ensures))
+
+say-past-requires : tie.Need-say-past-requires
+say-past-requires c κs = search needs
 
 same-length : tie.Need-same-length
 same-length c = search needs
 
 returns : tie.Need-returns
 returns c =
-    let s = c .before .before .before .before .before .before .before .before .before .before .before .before .before .before .before .before in
-    let end = c .before .before .before .before .before .before .before .before .before .end-text in
-    finished-made _ _ _ _ (s .pre) _ _ (end .ensures) (end .kept .1 .1 .0) _ _ (c .before .before .before .before .before .list-positions .ensures)
+    let end = c .before .before .before .before .before .before .before .before .before .before .before .before .end-text in
+    finished-made _ _ _ _ (c .before .before .before .before .before .before .before .before .before .before .before .before .before .before .before .before .before .before .before .pre) _ _ (end .ensures) (end .kept .1 .1 .0) _ _ (c .before .before .before .before .before .before .before .before .list-positions .ensures)
+
+same-length-2 : tie.Need-same-length-2
+same-length-2 c = search needs
+
+returns-2 : tie.Need-returns-2
+returns-2 c =
+    let end = c .before .before .before .before .before .before .before .before .before .before .before .end-text in
+    finished-made _ _ _ _ (c .before .before .before .before .before .before .before .before .before .before .before .before .before .before .before .before .before .before .pre) _ _ (end .ensures) (end .kept .1 .1 .0) _ _ (c .before .before .before .before .before .before .before .list-positions .ensures)
 
 pub finish-spec : {M : Type 1} → statement M
 finish-spec =
@@ -52,6 +60,9 @@ finish-spec =
     part-list-positions-end
     list-positions-requires
     add-bytes
-    tell-requires
+    send-requires
+    say-past-requires
     same-length
-    returns)
+    returns
+    same-length-2
+    returns-2)

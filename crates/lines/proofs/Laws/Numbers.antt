@@ -14,7 +14,7 @@ use Rattle.events.specs.declared.limits.Checked.the-variants.{Within, Refused}
 use Rattle.lines.specs.declared.line.LineAnswer.{LineAnswer}
 use Rattle.lines.specs.declared.line.LineAnswer.the-variants as lines
 use Rattle.events.proofs.Laws.Numbers.{by-limits, limit-number}
-use Rattle.events.specs.Limits.{within, kinds, fieldsFit, checks, checked, checkedNumber}
+use Rattle.events.specs.Limits.{within, kinds, fieldsFit, limitChecks, checked, checkedNumber}
 use Rattle.lines.specs.Line.{widths, eventOf, columns, lineLength, lineEnd, Fields, Values, Unreadable, readFields, answerOf, taken, readLine, checkedLine, writtenOf, writeAnswer, lineNumber, writeNumber, fieldsNumber, readerNumber, writerNumber}
 
 -- ---- the reader
@@ -52,5 +52,5 @@ by-room true kind date fields = by-limits kind date fields
 pub writer-number : (e : Event) (out : List ℕ) → writeNumber (writeAnswer e out) ≡ writerNumber e out
 unfolding writeAnswer writerNumber
 writer-number e out =
-    written (judged (check (leb lineLength (length out)) (Refused UnfitMemory) ∷ checks e) Within)
+    written (judged (check (leb lineLength (length out)) (Refused UnfitMemory) ∷ limitChecks e) Within)
     ∙ by-room (leb lineLength (length out)) (within kinds (e .kind)) (inRange (e .date)) (fieldsFit e)

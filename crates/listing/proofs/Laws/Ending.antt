@@ -17,19 +17,19 @@ use Rattle.listing.specs.Listing.{endFits, EndTaken}
 use Rattle.run.specs.Run.{endsLine}
 use Rattle.report.proofs.Laws.Layout.{length-answerLine, answerFits-made}
 
-module _ (lines begun : ℕ) (out : List ℕ) where
-  pub end-refused : endFits out ≡ false → EndTaken lines begun out (record { lines = lines; told = 0; answer = Refused UnfitMemory }) out
-  end-refused f = record { answer-is = rw f; number-is = rw f; lines-are = rw f; told-is = rw f; out-is = rw f }
+module _ (lines partial : ℕ) (out : List ℕ) where
+  pub end-refused : endFits out ≡ false → EndTaken lines partial out (record { lines = lines; written = 0; answer = Refused UnfitMemory }) out
+  end-refused f = record { answer-is = rw f; number-is = rw f; lines-are = rw f; written-is = rw f; out-is = rw f }
 
-  pub end-none : endFits out ≡ true → endsLine lines begun ≡ false → EndTaken lines begun out (record { lines = lines; told = 0; answer = Accepted }) out
-  end-none f n = record { answer-is = rw f; number-is = rw f; lines-are = rw (f, n); told-is = rw (f, n); out-is = rw (f, n) }
+  pub end-none : endFits out ≡ true → endsLine lines partial ≡ false → EndTaken lines partial out (record { lines = lines; written = 0; answer = Accepted }) out
+  end-none f n = record { answer-is = rw f; number-is = rw f; lines-are = rw (f, n); written-is = rw (f, n); out-is = rw (f, n) }
 
   pub end-line : (number : ℕ) (out' : List ℕ)
       → endFits out ≡ true
-      → endsLine lines begun ≡ true
+      → endsLine lines partial ≡ true
       → number ≡ numberOf BadLine
       → out' ≡ cond (answerFits 0 (lines + 1) number out) (pasted 0 (answerLine (lines + 1) number) out) out
-      → EndTaken lines begun out (record { lines = lines + 1; told = answerLength; answer = Accepted }) out'
+      → EndTaken lines partial out (record { lines = lines + 1; written = answerLength; answer = Accepted }) out'
   end-line number out' f n e w =
       let few = ltb-true lines lastNumber (and-halves (ltb lines lastNumber) n .0) in
       let fits =
@@ -38,6 +38,6 @@ module _ (lines begun : ℕ) (out : List ℕ) where
         answer-is = rw f;
         number-is = rw f;
         lines-are = rw (f, n);
-        told-is = rw (f, n) (sym (length-answerLine (lines + 1) (numberOf BadLine)));
+        written-is = rw (f, n) (sym (length-answerLine (lines + 1) (numberOf BadLine)));
         out-is = rw (f, n) (rw (fits, e) at w);
       }

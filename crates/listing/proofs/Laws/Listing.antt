@@ -14,7 +14,7 @@ use mir.Syntax.{w64}
 use mir.Val.{toZ, ofZ, SFits}
 use mir.Facts.{toZ-ofZ}
 use Rattle.common.proofs.Tests.{and-halves, true-or-false}
-use Rattle.positions.specs.Positions.{positionLimit, position, Within}
+use Rattle.positions.specs.Positions.{positionLimit, position, InLimit}
 use Rattle.positions.proofs.Laws.Integers.{size-within}
 use Rattle.digits.specs.Field.{pasted}
 use Rattle.tables.specs.Limits.{creditorCount, debtorCount, bankCount}
@@ -23,10 +23,10 @@ use Rattle.fitness.specs.Fitness.{fit, positionFit}
 use Rattle.fitness.proofs.Laws.Fitness.{Fit, fit-facts, position-facts, compensation-facts, creditorsFit-at, positionsFit-at}
 use Rattle.model.specs.Step.{figureOf}
 use Rattle.report.specs.Layout.{positionLine, positionLength, widestKind, lastNumber, positionFits}
-use Rattle.listing.specs.Listing.{toldTable, listingRoom, listed}
-use Rattle.run.specs.Run.{toldPosition, toldKind, toldPositions}
+use Rattle.listing.specs.Listing.{tableOutput, listingRoom, listed}
+use Rattle.run.specs.Run.{positionOutput, kindOutput, positionsOutput}
 use Rattle.digits.proofs.Laws.Buffer.{Written, written-none, written-length, written-more}
-use Rattle.run.proofs.Laws.Positions.{toldPosition-zero, toldPosition-line, toldFigures-none, toldFigures-more, toldFigures-same, length-toldFigures, toldPositions-kinds}
+use Rattle.run.proofs.Laws.Positions.{positionOutput-zero, positionOutput-line, figuresOutput-none, figuresOutput-more, figuresOutput-same, length-figuresOutput, positionsOutput-kinds}
 use Rattle.report.proofs.Laws.Layout.{length-positionLine, positionFits-is}
 
 -- ---- a position of 0, and another
@@ -39,15 +39,15 @@ pub other-bits : (z : ℤ) → ofZ w64 z ≢ 0 → z ≢ pos 0
 other-bits z n e = n (ap (ofZ w64) e)
 
 module _ (at kind number : ℕ) (cents : ℤ) (out : List ℕ) where
-  pub zero-written : cents ≡ pos 0 → Written at out (toldPosition kind number cents) at out
-  zero-written e = rw (toldPosition-zero kind number cents e) (written-none at out)
+  pub zero-written : cents ≡ pos 0 → Written at out (positionOutput kind number cents) at out
+  zero-written e = rw (positionOutput-zero kind number cents e) (written-none at out)
 
   pub line-written : (last : List ℕ)
       → cents ≢ pos 0
       → last ≡ pasted at (positionLine kind number cents) out
-      → Written at out (toldPosition kind number cents) (at + positionLength) last
+      → Written at out (positionOutput kind number cents) (at + positionLength) last
   line-written last n e =
-      rw (toldPosition-line kind number cents n)
+      rw (positionOutput-line kind number cents n)
       (record { place = omega (arith, length-positionLine kind number cents); bytes = e })
 
   pub positionFits-made :
@@ -68,16 +68,16 @@ Ready at kind positions out =
     (at + length positions * positionLength ≤ length out)
     × (kind ≤ widestKind)
     × (length positions ≤ lastNumber)
-    × Within positionLimit positions
+    × InLimit positionLimit positions
 
-pub table-start : (at kind : ℕ) (positions : List ℤ) (out : List ℕ) → Written at out (toldTable kind positions 0) at out
-table-start at kind positions out = rw (toldFigures-none kind (position positions)) (written-none at out)
+pub table-start : (at kind : ℕ) (positions : List ℤ) (out : List ℕ) → Written at out (tableOutput kind positions 0) at out
+table-start at kind positions out = rw (figuresOutput-none kind (position positions)) (written-none at out)
 
 module _ (at kind : ℕ) (positions : List ℤ) (out : List ℕ) (ready : Ready at kind positions out) where
-  pub table-inside : (i : ℕ) → i ≤ length positions → at + length (toldTable kind positions i) ≤ length out
-  table-inside i h = omega (arith, length-toldFigures kind (position positions) i, ready .0)
+  pub table-inside : (i : ℕ) → i ≤ length positions → at + length (tableOutput kind positions i) ≤ length out
+  table-inside i h = omega (arith, length-figuresOutput kind (position positions) i, ready .0)
 
-  module _ (i next : ℕ) (now : List ℕ) (w : Written at out (toldTable kind positions i) next now) where
+  module _ (i next : ℕ) (now : List ℕ) (w : Written at out (tableOutput kind positions i) next now) where
     pub table-fits : i < length positions → positionFits next kind (i + 1) (getD positions i (pos 0)) now ≡ true
     unfolding position
     table-fits h =
@@ -85,29 +85,29 @@ module _ (at kind : ℕ) (positions : List ℤ) (out : List ℕ) (ready : Ready 
         omega (
           arith,
           w .place,
-          length-toldFigures kind (position positions) i,
+          length-figuresOutput kind (position positions) i,
           ready .0,
-          written-length at out (toldTable kind positions i) next now w (table-inside i (omega arith)),
+          written-length at out (tableOutput kind positions i) next now w (table-inside i (omega arith)),
         ) in
         let number : i + 1 ≤ lastNumber = omega (arith, ready .2) in
         positionFits-made next kind (i + 1) (getD positions i (pos 0)) now room (ready .1) number (ready .3 (suc i))
 
     pub table-more : (r : ℕ) (last : List ℕ)
         → i < length positions
-        → r ≡ next + length (toldPosition kind (i + 1) (getD positions i (pos 0)))
-        → last ≡ pasted next (toldPosition kind (i + 1) (getD positions i (pos 0))) now
-        → Written at out (toldTable kind positions (i + 1)) r last
+        → r ≡ next + length (positionOutput kind (i + 1) (getD positions i (pos 0)))
+        → last ≡ pasted next (positionOutput kind (i + 1) (getD positions i (pos 0))) now
+        → Written at out (tableOutput kind positions (i + 1)) r last
     unfolding position
     table-more r last h p q =
-        rw (toldFigures-more kind (position positions) i, ap (position positions) (add-one i))
-        (written-more at out (toldTable kind positions i) next now w (table-inside i (omega arith)) _ last r p q)
+        rw (figuresOutput-more kind (position positions) i, ap (position positions) (add-one i))
+        (written-more at out (tableOutput kind positions i) next now w (table-inside i (omega arith)) _ last r p q)
 
 -- ---- the whole listing
 
 -- the entries of a table are within the limit
 table-within : (positions : List ℤ)
     → ((i : ℕ) → i < length positions → positionFit (getD positions i (pos 0)) ≡ true)
-    → Within positionLimit positions
+    → InLimit positionLimit positions
 unfolding position
 table-within positions f zero = omega arith
 table-within positions f (suc i) =
@@ -117,27 +117,27 @@ table-within positions f (suc i) =
     (true-or-false (ltb i (length positions)))
 
 -- all lines of a table
-abbrev pub toldAll : ℕ → List ℤ → List ℕ
-toldAll kind positions = toldTable kind positions (length positions)
+abbrev pub allOutput : ℕ → List ℤ → List ℕ
+allOutput kind positions = tableOutput kind positions (length positions)
 
 -- what is written before the second kind, the third, and the total
 module _ (l : Ledger) where
   abbrev pub firstKind : List ℕ
-  firstKind = toldAll 1 (l .creditorPositions)
+  firstKind = allOutput 1 (l .creditorPositions)
 
   abbrev pub twoKinds : List ℕ
-  twoKinds = firstKind ++ toldAll 2 (l .debtorPositions)
+  twoKinds = firstKind ++ allOutput 2 (l .debtorPositions)
 
   abbrev pub threeKinds : List ℕ
-  threeKinds = twoKinds ++ toldAll 3 (l .bankPositions)
+  threeKinds = twoKinds ++ allOutput 3 (l .bankPositions)
 
   -- all lines of a kind
   all-kind :
       (kind : ℕ) (positions : List ℤ) (count : ℕ) → length positions ≡ count
       → ((number : ℕ) → figureOf l kind number ≡ position positions number)
-      → toldAll kind positions ≡ toldKind l kind count
+      → allOutput kind positions ≡ kindOutput l kind count
   all-kind kind positions count e f =
-      ap (toldTable kind positions) e ∙ toldFigures-same kind (position positions) (figureOf l kind) count (λ i h. sym (f (suc i)))
+      ap (tableOutput kind positions) e ∙ figuresOutput-same kind (position positions) (figureOf l kind) count (λ i h. sym (f (suc i)))
 
 module _ (l : Ledger) (out : List ℕ) where
   pub listed-is : (memory room : Bool) → memory ≡ fit l → room ≡ leb listingRoom (length out) → memory && room ≡ listed l out
@@ -163,15 +163,15 @@ module _ (l : Ledger) (out : List ℕ) where
     banks-size = listing-fit .sizes .bank-positions
 
     first-length : length (firstKind l) ≤ creditorCount * positionLength
-    first-length = omega (arith, length-toldFigures 1 (position (l .creditorPositions)) (length (l .creditorPositions)), creditors-size)
+    first-length = omega (arith, length-figuresOutput 1 (position (l .creditorPositions)) (length (l .creditorPositions)), creditors-size)
 
     two-length : length (twoKinds l) ≤ (creditorCount + debtorCount) * positionLength
     two-length =
         omega (
           arith,
           first-length,
-          length-append (firstKind l) (toldAll 2 (l .debtorPositions)),
-          length-toldFigures 2 (position (l .debtorPositions)) (length (l .debtorPositions)),
+          length-append (firstKind l) (allOutput 2 (l .debtorPositions)),
+          length-figuresOutput 2 (position (l .debtorPositions)) (length (l .debtorPositions)),
           debtors-size,
         )
 
@@ -180,8 +180,8 @@ module _ (l : Ledger) (out : List ℕ) where
         omega (
           arith,
           two-length,
-          length-append (twoKinds l) (toldAll 3 (l .bankPositions)),
-          length-toldFigures 3 (position (l .bankPositions)) (length (l .bankPositions)),
+          length-append (twoKinds l) (allOutput 3 (l .bankPositions)),
+          length-figuresOutput 3 (position (l .bankPositions)) (length (l .bankPositions)),
           banks-size,
         )
 
@@ -215,8 +215,8 @@ module _ (l : Ledger) (out : List ℕ) where
 
     pub debtors-written : (next : ℕ) (now : List ℕ) (r : ℕ) (last : List ℕ)
         → Written 0 out (firstKind l) next now
-        → r ≡ next + length (toldAll 2 (l .debtorPositions))
-        → last ≡ pasted next (toldAll 2 (l .debtorPositions)) now
+        → r ≡ next + length (allOutput 2 (l .debtorPositions))
+        → last ≡ pasted next (allOutput 2 (l .debtorPositions)) now
         → Written 0 out (twoKinds l) r last
     debtors-written next now r last w p q = written-more 0 out (firstKind l) next now w first-inside _ last r p q
 
@@ -230,16 +230,16 @@ module _ (l : Ledger) (out : List ℕ) where
 
     pub banks-written : (next : ℕ) (now : List ℕ) (r : ℕ) (last : List ℕ)
         → Written 0 out (twoKinds l) next now
-        → r ≡ next + length (toldAll 3 (l .bankPositions))
-        → last ≡ pasted next (toldAll 3 (l .bankPositions)) now
+        → r ≡ next + length (allOutput 3 (l .bankPositions))
+        → last ≡ pasted next (allOutput 3 (l .bankPositions)) now
         → Written 0 out (threeKinds l) r last
     banks-written next now r last w p q = written-more 0 out (twoKinds l) next now w two-inside _ last r p q
 
     -- the kinds and the total are the listing
-    toldPositions-is : threeKinds l ++ positionLine 4 0 (l .compensation) ≡ toldPositions l
-    toldPositions-is =
+    positionsOutput-is : threeKinds l ++ positionLine 4 0 (l .compensation) ≡ positionsOutput l
+    positionsOutput-is =
         rw (
-          toldPositions-kinds l,
+          positionsOutput-kinds l,
           all-kind l 1 (l .creditorPositions) creditorCount creditors-size (λ number. refl),
           all-kind l 2 (l .debtorPositions) debtorCount debtors-size (λ number. refl),
           all-kind l 3 (l .bankPositions) bankCount banks-size (λ number. refl),
@@ -266,10 +266,10 @@ module _ (l : Ledger) (out : List ℕ) where
 
       pub listing-written : (last : List ℕ)
           → last ≡ pasted next (positionLine 4 0 (l .compensation)) now
-          → Written 0 out (toldPositions l) (next + positionLength) last
+          → Written 0 out (positionsOutput l) (next + positionLength) last
       listing-written last e =
           let line = positionLine 4 0 (l .compensation) in
-          rw (← toldPositions-is)
+          rw (← positionsOutput-is)
           (written-more 0 out (threeKinds l) next now w three-inside line last (next + positionLength)
           (omega (arith, length-positionLine 4 0 (l .compensation)))
           e)

@@ -14,7 +14,7 @@ use Rattle.common.specs.Tests.{among}
 use Rattle.events.proofs.Laws.Limits.{checked-kind, checked-date, checked-field, checked-within}
 use Rattle.tables.specs.Ledger.{Ledger}
 use Rattle.fitness.specs.Fitness.{sizesFit, fit}
-use Rattle.opening.specs.Opening.{Outcome, opening}
+use Rattle.opening.specs.Opening.{OpenResult, opening}
 use Rattle.opening.proofs.Laws.Opening.{opening-done, opening-refused}
 use Rattle.model.specs.declared.Answer.{Answer}
 use Rattle.model.specs.declared.Answer.the-variants as answers
@@ -117,5 +117,5 @@ pub opening-answers : OpeningAnswers
 opening-answers l = by-sizes (sizesFit l) refl
   where
     by-sizes : (b : Bool) → sizesFit l ≡ b → opening l .number ≡ cond b 0 2
-    by-sizes true h = ap (λ (o : Outcome). o .number) (opening-done l h)
-    by-sizes false h = ap (λ (o : Outcome). o .number) (opening-refused l h)
+    by-sizes true h = ap (λ (o : OpenResult). o .number) (opening-done l h)
+    by-sizes false h = ap (λ (o : OpenResult). o .number) (opening-refused l h)

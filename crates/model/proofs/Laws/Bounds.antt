@@ -10,7 +10,7 @@ use Rattle.calendar.specs.Gregorian.{inRange}
 use Rattle.calendar.proofs.Laws.Gregorian.{range-facts}
 use Rattle.calendar.proofs.Laws.DayNumber.{dayNumber-mono-le}
 use Rattle.positions.specs.declared.Postings.{Postings}
-use Rattle.positions.specs.Positions.{Entry, position, posted, transferred, total}
+use Rattle.positions.specs.Positions.{HasEntry, position, posted, transferred, total}
 use Rattle.positions.specs.Postings.{settlement, reversed, refunded}
 use Rattle.positions.specs.Compensation.{compensation as compensationFor, amountLimit, daysLimit}
 use Rattle.positions.specs.Limits.{compensationLimit}
@@ -143,7 +143,7 @@ module _ (l : Ledger) (date row : ℕ) (k' k : Collection) (p : Postings) (m : �
 
   -- ---- the sums
 
-  pub balanced-posted : Balanced l → Entry (l .creditorPositions) (k .creditor) → Entry (l .debtorPositions) (k .debtor) → Entry (l .bankPositions) (k .dbank) → Entry (l .bankPositions) (k .cbank) → Balanced (withPostings (keepCollection (dated l date) row k') k p)
+  pub balanced-posted : Balanced l → HasEntry (l .creditorPositions) (k .creditor) → HasEntry (l .debtorPositions) (k .debtor) → HasEntry (l .bankPositions) (k .dbank) → HasEntry (l .bankPositions) (k .cbank) → Balanced (withPostings (keepCollection (dated l date) row k') k p)
   balanced-posted b ec ed edb ecb =
       record {
         parties =

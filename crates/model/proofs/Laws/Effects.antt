@@ -7,7 +7,7 @@ use mathlib.Core.Bool.{Bool, true, false, cond}
 use Prim.Native.Nat.{ℕ, _<_}
 use lib.Dec.{eqb}
 use Rattle.common.proofs.Tests.{never}
-use Rattle.positions.specs.Positions.{Entry}
+use Rattle.positions.specs.Positions.{HasEntry}
 use Rattle.tables.specs.Ledger.{Ledger}
 use Rattle.tables.specs.Lookup.{lookup}
 use Rattle.tables.specs.Rows.{rows, mandateAt, collectionAt}
@@ -109,22 +109,22 @@ collection-there l n f e =
 
 -- the parties and banks that a collection keeps have their entries
 module _ (l : Ledger) (z : Sizes l) (n : ℕ) (h : CollectionThere l n) where
-  pub creditor-entry : Entry (l .creditorPositions) (h .collection .creditor)
+  pub creditor-entry : HasEntry (l .creditorPositions) (h .collection .creditor)
   creditor-entry =
       let w = h .fits .creditor-fit in
       record { low = w .from; high = rw (z .creditor-positions) (w .to) }
 
-  pub debtor-entry : Entry (l .debtorPositions) (h .collection .debtor)
+  pub debtor-entry : HasEntry (l .debtorPositions) (h .collection .debtor)
   debtor-entry =
       let w = h .fits .debtor-fit in
       record { low = w .from; high = rw (z .debtor-positions) (w .to) }
 
-  pub dbank-entry : Entry (l .bankPositions) (h .collection .dbank)
+  pub dbank-entry : HasEntry (l .bankPositions) (h .collection .dbank)
   dbank-entry =
       let w = h .fits .dbank-fit in
       record { low = w .from; high = rw (z .bank-positions) (w .to) }
 
-  pub cbank-entry : Entry (l .bankPositions) (h .collection .cbank)
+  pub cbank-entry : HasEntry (l .bankPositions) (h .collection .cbank)
   cbank-entry =
       let w = h .fits .cbank-fit in
       record { low = w .from; high = rw (z .bank-positions) (w .to) }

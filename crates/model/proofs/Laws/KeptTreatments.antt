@@ -12,7 +12,7 @@ use borrow.Author.Tests.{eqb-true, eqb-false, eq-eqb, ne-eqb}
 use Rattle.common.proofs.Tests.{true-or-false}
 use Rattle.positions.specs.declared.Postings.{Postings}
 use Rattle.positions.specs.Postings.{settlement}
-use Rattle.positions.specs.Positions.{Entry, position, posted}
+use Rattle.positions.specs.Positions.{HasEntry, position, posted}
 use Rattle.positions.proofs.Laws.Positions.{entry-posted, position-posted-same, position-posted-other}
 use Rattle.tables.specs.Ledger.{Ledger}
 use Rattle.tables.specs.declared.Collection.{Collection}
@@ -47,7 +47,7 @@ rejected-not s e = let z : _≡_ {A = ℕ} 0 1 = cc in omega arith
 -- ---- figures
 
 -- a position is that of the base and a figure together, and stays so when both get the same amount
-figure-posted : (table : List ℤ) (b f : ℕ → ℤ) (k k' : ℕ) (x x' : ℤ) → Entry table k → ((n : ℕ) → position table n ≡ b n +ℤ f n) → k ≡ k' → x ≡ x' → (n : ℕ) → position (posted table k x) n ≡ b n +ℤ plus f k' x' n
+figure-posted : (table : List ℤ) (b f : ℕ → ℤ) (k k' : ℕ) (x x' : ℤ) → HasEntry table k → ((n : ℕ) → position table n ≡ b n +ℤ f n) → k ≡ k' → x ≡ x' → (n : ℕ) → position (posted table k x) n ≡ b n +ℤ plus f k' x' n
 figure-posted table b f k k' x x' e g p q n =
     ⊎-elim
     (λ t.

@@ -34,7 +34,7 @@ use Rattle.model.specs.Deadlines.{dateFound, keptDue}
 use Rattle.model.specs.Effects.{closes, undone}
 use Rattle.model.specs.Lookups.{Known}
 use Rattle.model.specs.Lookups.Known.{unknown, known}
-use Rattle.model.specs.Journal.{Journal, NotedMandate, NotedCollection, withBank, withMandate, withCollection, adding, needing, remade, newNoted, amended, cancelled, dueOn, isLast, collectedOn, notedCollection, noteCollect, notedSettled, noteSettle, noteBack, noteRefund, paidOn, needingSettled, noteKind, note}
+use Rattle.model.specs.Journal.{Journal, NotedMandate, NotedCollection, withBank, withMandate, withCollection, adding, needing, notedAnew, newNoted, amended, cancelled, dueOn, isLast, collectedOn, notedCollection, noteCollect, notedSettled, noteSettle, noteBack, noteRefund, paidOn, needingSettled, noteKind, note}
 use Rattle.model.specs.Noted.{notedOf}
 use Rattle.model.specs.Promises.{settles, ends, undoings}
 use Rattle.model.proofs.Laws.Actions.{action-creditor, action-mandate, action-amend, action-cancel, action-collect, action-settle, action-reject, action-return, action-refund, action-reversal}
@@ -42,12 +42,12 @@ use Rattle.model.proofs.Laws.Actions.{action-creditor, action-mandate, 
 -- ---- by the step's rules
 
 unfoldable pub changeOf : Change → NotedMandate → NotedMandate
-changeOf (NewBank b) m = remade m (m .creditor) b (m .standing) (m .presented)
-changeOf (NewCreditor a) m = remade m a (m .bank) (m .standing) (m .presented)
-changeOf Cancel m = remade m (m .creditor) (m .bank) Cancelled (m .presented)
+changeOf (NewBank b) m = notedAnew m (m .creditor) b (m .standing) (m .presented)
+changeOf (NewCreditor a) m = notedAnew m a (m .bank) (m .standing) (m .presented)
+changeOf Cancel m = notedAnew m (m .creditor) (m .bank) Cancelled (m .presented)
 
 unfoldable pub presentOf : Presentation → NotedMandate → NotedMandate
-presentOf p m = remade m (m .creditor) (m .bank) (cond (closes (p .code)) Closed (m .standing)) (keptDue (p .requested))
+presentOf p m = notedAnew m (m .creditor) (m .bank) (cond (closes (p .code)) Closed (m .standing)) (keptDue (p .requested))
 
 unfoldable pub collectionNoted : Journal → Presentation → NotedMandate → NotedCollection
 collectionNoted j p m = record {

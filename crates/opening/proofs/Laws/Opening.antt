@@ -15,7 +15,7 @@ use Rattle.common.proofs.Tests.{true-or-false}
 use Rattle.tables.specs.Limits.{creditorCount, debtorCount, bankCount}
 use Rattle.tables.specs.Ledger.{Ledger}
 use Rattle.fitness.specs.Fitness.{positionFit, sizesFit, mandateFit, collectionFit, creditorFit, creditorsFit, positionsFit, fit}
-use Rattle.opening.specs.Opening.{fresh, outcome, opened, opening}
+use Rattle.opening.specs.Opening.{fresh, openResult, opened, opening}
 use Rattle.fitness.proofs.Laws.Fitness.{Sizes, sizes-facts, HeaderFit, rowsFit-made, creditorsFit-made, positionsFit-made, fit-made}
 
 -- ---- a table cleared entry by entry, over the type of its entries
@@ -58,11 +58,11 @@ no-creditors =
 -- ---- opening
 
 module _ (l : Ledger) where
-  pub opening-refused : sizesFit l ≡ false → opening l ≡ outcome 2 l
+  pub opening-refused : sizesFit l ≡ false → opening l ≡ openResult 2 l
   unfolding opening opened
   opening-refused e = rw e
 
-  pub opening-done : sizesFit l ≡ true → opening l ≡ outcome 0 (fresh l)
+  pub opening-done : sizesFit l ≡ true → opening l ≡ openResult 0 (fresh l)
   unfolding opening opened
   opening-done e = rw e
 

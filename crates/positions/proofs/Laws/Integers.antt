@@ -11,7 +11,7 @@ use mir.Syntax.{w64}
 use mir.Val.{toZ, ofZ, SFits}
 use mir.Facts.{toZ-ofZ}
 use Rattle.common.proofs.Tests.{and-halves, and-true, never}
-use Rattle.positions.specs.Positions.{within}
+use Rattle.positions.specs.Positions.{inLimit}
 
 -- ---- regrouping
 
@@ -56,13 +56,13 @@ size-between a (suc b) m p q = by-test (ltb a (suc b)) refl
 
 -- ---- within
 
-pub within-size : (m : ℕ) (z : ℤ) → within m z ≡ true → natAbs z ≤ m
+pub within-size : (m : ℕ) (z : ℤ) → inLimit m z ≡ true → natAbs z ≤ m
 within-size zero (pos n) e = leb-true n zero (and-halves (leb zero n) e .1)
 within-size (suc m) (pos n) e = leb-true n (suc m) e
 within-size zero (negsuc n) e = absurd (never e refl)
 within-size (suc m) (negsuc n) e = omega (arith, leb-true n m (and-halves (leb n m) e .0))
 
-pub size-within : (m : ℕ) (z : ℤ) → natAbs z ≤ m → within m z ≡ true
+pub size-within : (m : ℕ) (z : ℤ) → natAbs z ≤ m → inLimit m z ≡ true
 size-within zero (pos n) h = and-true (le-leb zero n (omega arith)) (le-leb n zero h)
 size-within (suc m) (pos n) h = le-leb n (suc m) h
 size-within zero (negsuc n) h = absurd (omega arith)

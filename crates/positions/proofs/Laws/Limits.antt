@@ -5,7 +5,7 @@ use Prim.Native.Nat.{ℕ, _+_, _*_, _<_, _≤_}
 use native.Mathlib.Omega.{arith}
 use Rattle.positions.specs.Positions.{positionLimit}
 use Rattle.positions.specs.Compensation.{interest, halfUp, compensation, amountLimit, rateLimit, daysLimit}
-use Rattle.positions.specs.Limits.{rowLimit, compensationLimit, rowMove}
+use Rattle.positions.specs.Limits.{lentRows, compensationLimit, rowMove}
 use Rattle.positions.proofs.Laws.Compensation.{compensation-mono}
 
 -- ---- the days of a refund in time
@@ -39,17 +39,17 @@ refund-bound a r d ha hr hd =
 -- ---- the rows of a ledger, one settled and undone after the other
 
 -- with as many days as are worked out at all
-pub rows-within-limit : rowLimit * rowMove < positionLimit
+pub rows-within-limit : lentRows * rowMove < positionLimit
 rows-within-limit = omega arith
 
 -- and two moves by the amount and the compensation of a refund in time; with daysLimit this would not hold
-pub refunds-within-limit : rowLimit * (2 * (amountLimit + refundLimit)) < positionLimit
+pub refunds-within-limit : lentRows * (2 * (amountLimit + refundLimit)) < positionLimit
 refunds-within-limit = omega arith
 
 -- a position, opened at 0, that each of some rows has moved by at most rowMove
-pub moves-within-limit : (rows size : ℕ) → rows ≤ rowLimit → size ≤ rows * rowMove → size ≤ positionLimit
+pub moves-within-limit : (rows size : ℕ) → rows ≤ lentRows → size ≤ rows * rowMove → size ≤ positionLimit
 moves-within-limit rows size h s = omega arith
 
 -- total compensation, to which each row has added at most once
-pub compensations-within-limit : (rows cents : ℕ) → rows ≤ rowLimit → cents ≤ rows * compensationLimit → cents ≤ positionLimit
+pub compensations-within-limit : (rows cents : ℕ) → rows ≤ lentRows → cents ≤ rows * compensationLimit → cents ≤ positionLimit
 compensations-within-limit rows cents h s = omega arith

@@ -13,18 +13,18 @@ use lib.IntN.{ℤ, pos, negℤ, natAbs, _+ℤ_, +ℤ-assoc, +ℤ-idl, +ℤ-idr, 
 use lib.ListN.{length, getD, set, length-set, List·getD-eq-default}
 use lib.Seq.{getD-set-same, getD-set-other, set-out, set-getD}
 use Rattle.common.proofs.Tests.{and-halves, and-true, never}
-use Rattle.positions.specs.Positions.{isEntry, Entry, position, posted, transferred, total, zeros, Within}
+use Rattle.positions.specs.Positions.{hasEntry, HasEntry, position, posted, transferred, total, zeros, InLimit}
 use Rattle.positions.proofs.Laws.Integers.{swap-last, cancel-add, size-add, size-neg}
 
 -- ---- the entry of a number
 
-pub isEntry-entry : (l : List ℤ) (k : ℕ) → isEntry l k ≡ true → Entry l k
-isEntry-entry l k e =
+pub hasEntry-entry : (l : List ℤ) (k : ℕ) → hasEntry l k ≡ true → HasEntry l k
+hasEntry-entry l k e =
     let h = and-halves (leb 1 k) e in
     record { low = leb-true 1 k (h .0); high = leb-true k (length l) (h .1) }
 
-pub entry-isEntry : (l : List ℤ) (k : ℕ) → Entry l k → isEntry l k ≡ true
-entry-isEntry l k e = and-true (le-leb 1 k (e .low)) (le-leb k (length l) (e .high))
+pub entry-hasEntry : (l : List ℤ) (k : ℕ) → HasEntry l k → hasEntry l k ≡ true
+entry-hasEntry l k e = and-true (le-leb 1 k (e .low)) (le-leb k (length l) (e .high))
 
 -- as the code finds it, at the index k - 1
 pub position-index : (l : List ℤ) (k : ℕ) → 1 ≤ k → position l k ≡ getD l (k - 1) (pos 0)
@@ -38,7 +38,7 @@ posted-index l zero x h = absurd (omega arith)
 posted-index l (suc i) x h =
     ap (λ (n : ℕ). set l n (getD l n (pos 0) +ℤ x)) (omega arith)
 
-past-end : (l : List ℤ) (i : ℕ) → isEntry l (suc i) ≡ false → length l ≤ i
+past-end : (l : List ℤ) (i : ℕ) → hasEntry l (suc i) ≡ false → length l ≤ i
 past-end l i e = by-test (leb (suc i) (length l)) refl
   where
     by-test : (t : Bool) → leb (suc i) (length l) ≡ t → length l ≤ i
@@ -46,14 +46,14 @@ past-end l i e = by-test (leb (suc i) (length l)) refl
     by-test false q = omega (arith, leb-false (suc i) (length l) q)
 
 -- a number without an entry has the position 0
-pub position-none : (l : List ℤ) (k : ℕ) → isEntry l k ≡ false → position l k ≡ pos 0
+pub position-none : (l : List ℤ) (k : ℕ) → hasEntry l k ≡ false → position l k ≡ pos 0
 unfolding position
 position-none l zero e = refl
 position-none l (suc i) e = List·getD-eq-default l (pos 0) (past-end l i e)
 
 -- ---- a posting
 
-pub posted-none : (l : List ℤ) (k : ℕ) (x : ℤ) → isEntry l k ≡ false → posted l k x ≡ l
+pub posted-none : (l : List ℤ) (k : ℕ) (x : ℤ) → hasEntry l k ≡ false → posted l k x ≡ l
 unfolding posted
 posted-none l zero x e = refl
 posted-none l (suc i) x e = set-out l i (getD l i (pos 0) +ℤ x) (past-end l i e)
@@ -63,10 +63,10 @@ unfolding posted
 length-posted l zero x = refl
 length-posted l (suc i) x = length-set l i (getD l i (pos 0) +ℤ x)
 
-pub entry-posted : (l : List ℤ) (k j : ℕ) (x : ℤ) → Entry l j → Entry (posted l k x) j
+pub entry-posted : (l : List ℤ) (k j : ℕ) (x : ℤ) → HasEntry l j → HasEntry (posted l k x) j
 entry-posted l k j x e = record { low = e .low; high = omega (arith, length-posted l k x, e .high) }
 
-pub position-posted-same : (l : List ℤ) (k : ℕ) (x : ℤ) → Entry l k → position (posted l k x) k ≡ position l k +ℤ x
+pub position-posted-same : (l : List ℤ) (k : ℕ) (x : ℤ) → HasEntry l k → position (posted l k x) k ≡ position l k +ℤ x
 unfolding posted position
 position-posted-same l zero x e = absurd (omega (arith, e .low))
 position-posted-same l (suc i) x e = getD-set-same l i (getD l i (pos 0) +ℤ x) (pos 0) (e .high)
@@ -126,7 +126,7 @@ posted-transferred l from to x = posted-comm l to from x (negℤ x)
 
 -- ---- the sum of a table
 
-pub total-posted : (l : List ℤ) (k : ℕ) (x : ℤ) → Entry l k → total (posted l k x) ≡ total l +ℤ x
+pub total-posted : (l : List ℤ) (k : ℕ) (x : ℤ) → HasEntry l k → total (posted l k x) ≡ total l +ℤ x
 unfolding posted total
 total-posted l zero x e = absurd (omega (arith, e .low))
 total-posted [] (suc i) x e = absurd (omega (arith, e .high))
@@ -135,7 +135,7 @@ total-posted (z ∷ l) (suc (suc i)) x e =
     ap (λ (y : ℤ). z +ℤ y) (total-posted l (suc i) x (record { low = omega arith; high = omega (arith, e .high) }))
     ∙ sym (+ℤ-assoc z (total l) x)
 
-pub total-transferred : (l : List ℤ) (from to : ℕ) (x : ℤ) → Entry l from → Entry l to → total (transferred l from to x) ≡ total l
+pub total-transferred : (l : List ℤ) (from to : ℕ) (x : ℤ) → HasEntry l from → HasEntry l to → total (transferred l from to x) ≡ total l
 unfolding transferred
 total-transferred l from to x f t =
     total-posted (posted l from (negℤ x)) to x (entry-posted l from to (negℤ x) t)
@@ -160,21 +160,21 @@ position-zeros (suc n) (suc (suc i)) = position-zeros n (suc i)
 pub size-posted : (l : List ℤ) (k j : ℕ) (x : ℤ) → natAbs (position (posted l k x) j) ≤ natAbs (position l j) + natAbs x
 size-posted l k j x = by-test (eqb j k) refl
   where
-    by-entry : (t : Bool) → isEntry l k ≡ t → natAbs (position (posted l k x) k) ≤ natAbs (position l k) + natAbs x
-    by-entry true e = rw (position-posted-same l k x (isEntry-entry l k e)) (size-add (position l k) x)
+    by-entry : (t : Bool) → hasEntry l k ≡ t → natAbs (position (posted l k x) k) ≤ natAbs (position l k) + natAbs x
+    by-entry true e = rw (position-posted-same l k x (hasEntry-entry l k e)) (size-add (position l k) x)
     by-entry false e = rw (posted-none l k x e) (omega arith)
 
     by-test : (t : Bool) → eqb j k ≡ t → natAbs (position (posted l k x) j) ≤ natAbs (position l j) + natAbs x
-    by-test true e = rw (eqb-true j k e) (by-entry (isEntry l k) refl)
+    by-test true e = rw (eqb-true j k e) (by-entry (hasEntry l k) refl)
     by-test false e = rw (position-posted-other l k j x (eqb-false j k e)) (omega arith)
 
-pub within-zeros : (m n : ℕ) → Within m (zeros n)
+pub within-zeros : (m n : ℕ) → InLimit m (zeros n)
 within-zeros m n k = rw (position-zeros n k) (omega arith)
 
-pub within-mono : (m n : ℕ) (l : List ℤ) → m ≤ n → Within m l → Within n l
+pub within-mono : (m n : ℕ) (l : List ℤ) → m ≤ n → InLimit m l → InLimit n l
 within-mono m n l h w k = omega (arith, w k)
 
-pub within-posted : (m n : ℕ) (l : List ℤ) (k : ℕ) (x : ℤ) → Within m l → natAbs x ≤ n → Within (m + n) (posted l k x)
+pub within-posted : (m n : ℕ) (l : List ℤ) (k : ℕ) (x : ℤ) → InLimit m l → natAbs x ≤ n → InLimit (m + n) (posted l k x)
 within-posted m n l k x w h j = omega (arith, size-posted l k j x, w j)
 
 -- of both postings of a transfer no position sees more than one, or it sees them cancel
@@ -196,16 +196,16 @@ size-transferred l from to j x = by-test (eqb from to) (eqb j to) refl refl
         (omega (arith, size-posted l from j (negℤ x), size-neg x))
 
 pub within-transferred :
-    (m n : ℕ) (l : List ℤ) (from to : ℕ) (x : ℤ) → Within m l → natAbs x ≤ n → Within (m + n) (transferred l from to x)
+    (m n : ℕ) (l : List ℤ) (from to : ℕ) (x : ℤ) → InLimit m l → natAbs x ≤ n → InLimit (m + n) (transferred l from to x)
 within-transferred m n l from to x w h j = omega (arith, size-transferred l from to j x, w j)
 
-within-rest : (m : ℕ) (z : ℤ) (l : List ℤ) → Within m (z ∷ l) → Within m l
+within-rest : (m : ℕ) (z : ℤ) (l : List ℤ) → InLimit m (z ∷ l) → InLimit m l
 unfolding position
 within-rest m z l w zero = omega arith
 within-rest m z l w (suc i) = w (suc (suc i))
 
 -- the sum of a table whose positions are within a bound
-pub size-total : (m : ℕ) (l : List ℤ) → Within m l → natAbs (total l) ≤ length l * m
+pub size-total : (m : ℕ) (l : List ℤ) → InLimit m l → natAbs (total l) ≤ length l * m
 unfolding total position
 size-total m [] w = omega arith
 size-total m (z ∷ l) w = omega (arith, size-add z (total l), size-total m l (within-rest m z l w), w 1)

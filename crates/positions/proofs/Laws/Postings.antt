@@ -7,7 +7,7 @@ use Prim.Native.Nat.{ℕ, zero, _+_, _≤_}
 use native.Mathlib.Omega.{arith}
 use lib.IntN.{ℤ, pos, negℤ, natAbs, _+ℤ_, +ℤ-assoc, +ℤ-comm, +ℤ-idr, +ℤ-invr, +ℤ-invl, negℤ-+ℤ, negℤ-negℤ}
 use Rattle.positions.specs.declared.Postings.{Postings}
-use Rattle.positions.specs.Positions.{Entry, posted, transferred, total}
+use Rattle.positions.specs.Positions.{HasEntry, posted, transferred, total}
 use Rattle.positions.specs.Postings.{settlement, opposite, reversed, refunded}
 use Rattle.positions.proofs.Laws.Integers.{swap-last, size-neg}
 use Rattle.positions.proofs.Laws.Positions.{entry-posted, total-posted, transferred-posted, posted-transferred}
@@ -64,7 +64,7 @@ regroup a b c x y z = simp (+ℤ-assoc, +ℤ-comm, left-comm)
 
 -- creditors, debtors and total compensation
 pub parties-keep :
-    (creditors debtors : List ℤ) (compensation : ℤ) (c d : ℕ) (p : Postings) → Entry creditors c → Entry debtors d
+    (creditors debtors : List ℤ) (compensation : ℤ) (c d : ℕ) (p : Postings) → HasEntry creditors c → HasEntry debtors d
     → partySum p ≡ pos 0
     → total (posted creditors c (p .creditor)) +ℤ total (posted debtors d (p .debtor)) +ℤ (compensation +ℤ p .compensation)
     ≡ total creditors +ℤ total debtors +ℤ compensation
@@ -76,7 +76,7 @@ parties-keep creditors debtors compensation c d p hc hd e =
 
 -- the banks, equal ones too
 pub banks-keep :
-    (banks : List ℤ) (d c : ℕ) (p : Postings) → Entry banks d → Entry banks c → bankSum p ≡ pos 0
+    (banks : List ℤ) (d c : ℕ) (p : Postings) → HasEntry banks d → HasEntry banks c → bankSum p ≡ pos 0
     → total (posted (posted banks d (p .dbank)) c (p .cbank)) ≡ total banks
 banks-keep banks d c p hd hc e =
     total-posted (posted banks d (p .dbank)) c (p .cbank) (entry-posted banks d c (p .dbank) hc)

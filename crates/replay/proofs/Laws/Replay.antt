@@ -18,7 +18,7 @@ use Rattle.opening.specs.declared.OpenAnswer.the-variants.{Opened, Refused}
 use Rattle.opening.specs.declared.OpenOutcome.{OpenOutcome}
 use Rattle.tables.specs.Ledger.{Ledger}
 use Rattle.fitness.specs.Fitness.{sizesFit}
-use Rattle.opening.specs.Opening.{Outcome as Opening, openNumber, outcome, fresh, opened, opening}
+use Rattle.opening.specs.Opening.{OpenResult, openNumber, openResult, fresh, opened, opening}
 use Rattle.opening.proofs.Laws.Opening.{opening-done, opening-refused, opened-done}
 use Rattle.model.specs.Step.{answer, after, run}
 use Rattle.model.specs.Bounds.{Safe}
@@ -57,10 +57,10 @@ running-end events l₀ l i h e = h .is ∙ ap (λ (n : ℕ). run l₀ (eventsTo
 -- ---- what an opening says
 
 -- the parts of an opening's outcome
-opening-number : (n : ℕ) (l l' : Ledger) → outcome n l' ≡ opening l → (n ≡ opening l .number) × (l' ≡ opening l .after)
-opening-number n l l' e = (ap (λ (o : Opening). o .number) e, ap (λ (o : Opening). o .after) e)
+opening-number : (n : ℕ) (l l' : Ledger) → openResult n l' ≡ opening l → (n ≡ opening l .number) × (l' ≡ opening l .after)
+opening-number n l l' e = (ap (λ (o : OpenResult). o .number) e, ap (λ (o : OpenResult). o .after) e)
 
-module _ (l l' : Ledger) (a : OpenAnswer) (e : outcome (openNumber a) l' ≡ opening l) where
+module _ (l l' : Ledger) (a : OpenAnswer) (e : openResult (openNumber a) l' ≡ opening l) where
   -- what an accepted opening says
   pub record WasOpened : Type 0 where
     pub sizes : sizesFit l ≡ true
@@ -72,10 +72,10 @@ module _ (l l' : Ledger) (a : OpenAnswer) (e : outcome (openNumber a) l' ≡ ope
     pub sizes : sizesFit l ≡ false
     pub is : l' ≡ l
 
-  parts : (n : ℕ) (m : Ledger) → opening l ≡ outcome n m → (openNumber a ≡ n) × (l' ≡ m)
+  parts : (n : ℕ) (m : Ledger) → opening l ≡ openResult n m → (openNumber a ≡ n) × (l' ≡ m)
   parts n m o =
       let p = opening-number (openNumber a) l l' e in
-      (p .0 ∙ ap (λ (x : Opening). x .number) o, p .1 ∙ ap (λ (x : Opening). x .after) o)
+      (p .0 ∙ ap (λ (x : OpenResult). x .number) o, p .1 ∙ ap (λ (x : OpenResult). x .after) o)
 
   pub was-opened : a ≡ Opened → WasOpened
   was-opened o =
@@ -100,7 +100,7 @@ module _ (l l' : Ledger) (a : OpenAnswer) (e : outcome (openNumber a) l' ≡ ope
 -- ---- the whole call
 
 module _ (l : Ledger) (events : List ℕ) where
-  pub replayed-refused : (r : OpenOutcome) (l' : Ledger) (x : Refusal) → r .answer ≡ Refused x → outcome (openNumber (r .answer)) l' ≡ opening l → Replayed l (eventsIn events) r l'
+  pub replayed-refused : (r : OpenOutcome) (l' : Ledger) (x : Refusal) → r .answer ≡ Refused x → openResult (openNumber (r .answer)) l' ≡ opening l → Replayed l (eventsIn events) r l'
   replayed-refused r l' x q e =
       let w = was-refused l l' (r .answer) e x q in
       let p = parts l l' (r .answer) e 2 l (opening-refused l (w .sizes)) in
@@ -110,7 +110,7 @@ module _ (l : Ledger) (events : List ℕ) where
         kept = λ z. absurd (never z (w .sizes));
       }
 
-  pub replayed-done : (r : OpenOutcome) (h : Header) (l' l'' : Ledger) → r .answer ≡ Opened → outcome (openNumber (r .answer)) l' ≡ opening l → l'' ≡ run l' (eventsIn events) → Replayed l (eventsIn events) (record { answer = Opened; header = h }) l''
+  pub replayed-done : (r : OpenOutcome) (h : Header) (l' l'' : Ledger) → r .answer ≡ Opened → openResult (openNumber (r .answer)) l' ≡ opening l → l'' ≡ run l' (eventsIn events) → Replayed l (eventsIn events) (record { answer = Opened; header = h }) l''
   replayed-done r h l' l'' o e q =
       let w = was-opened l l' (r .answer) e o in
       record {

@@ -14,7 +14,7 @@ use mir.Syntax.{w64}
 use mir.Val.{toZ, ofZ, Fits, SFits}
 use mir.Facts.{toZ-ofZ}
 use Rattle.common.proofs.Tests.{never, and-halves}
-use Rattle.positions.specs.Positions.{positionLimit, within}
+use Rattle.positions.specs.Positions.{positionLimit, inLimit}
 use Rattle.positions.proofs.Laws.Integers.{within-size, bits-back, minus-fits, minus-back}
 use Rattle.digits.specs.Field.{blank, signOf, hasRoom, pasted, putAt}
 use Rattle.lines.specs.Line.{lineEnd}
@@ -25,7 +25,7 @@ use Rattle.report.specs.Layout.{answerLine, answerLength, positionLine, 
 -- ---- sizes of 64 bits
 
 -- the size of a number within the limit
-module _ (z : ℤ) (h : within positionLimit z ≡ true) where
+module _ (z : ℤ) (h : inLimit positionLimit z ≡ true) where
   small : natAbs z < 2 ^ 63
   small = omega (arith, within-size positionLimit z h)
 
@@ -122,7 +122,7 @@ module _ (at number answer : ℕ) (out : List ℕ) where
 module _ (at kind number : ℕ) (cents : ℤ) (out : List ℕ) where
   pub positionFits-is : (room limit : Bool)
       → room ≡ hasRoom at positionLength (length out)
-      → limit ≡ within positionLimit cents
+      → limit ≡ inLimit positionLimit cents
       → room && leb kind widestKind && leb number lastNumber && limit ≡ positionFits at kind number cents out
   unfolding positionFits
   positionFits-is room limit e l =
@@ -130,7 +130,7 @@ module _ (at kind number : ℕ) (cents : ℤ) (out : List ℕ) where
       ∙ ap (λ (b : Bool). hasRoom at positionLength (length out) && leb kind widestKind && leb number lastNumber && b) l
 
   pub positionFits-facts :
-      positionFits at kind number cents out ≡ true → (at + positionLength ≤ length out) × (within positionLimit cents ≡ true)
+      positionFits at kind number cents out ≡ true → (at + positionLength ≤ length out) × (inLimit positionLimit cents ≡ true)
   unfolding positionFits
   positionFits-facts e =
       let room = hasRoom at positionLength (length out) in

@@ -14,80 +14,80 @@ use Rattle.tables.specs.Ledger.{Ledger}
 use Rattle.model.specs.Step.{figureOf}
 use Rattle.report.specs.Layout.{positionLine, positionLength}
 use Rattle.report.proofs.Laws.Layout.{length-positionLine}
-use Rattle.run.specs.Run.{toldPosition, toldFigures, toldKind, toldPositions}
+use Rattle.run.specs.Run.{positionOutput, figuresOutput, kindOutput, positionsOutput}
 
 -- ---- one position
 
 module _ (kind number : ℕ) where
-  pub toldPosition-zero : (z : ℤ) → z ≡ pos 0 → toldPosition kind number z ≡ []
-  toldPosition-zero z e = ap (toldPosition kind number) e
+  pub positionOutput-zero : (z : ℤ) → z ≡ pos 0 → positionOutput kind number z ≡ []
+  positionOutput-zero z e = ap (positionOutput kind number) e
 
-  pub toldPosition-line : (z : ℤ) → z ≢ pos 0 → toldPosition kind number z ≡ positionLine kind number z
-  toldPosition-line (pos zero) n = absurd (n refl)
-  toldPosition-line (pos (suc k)) n = refl
-  toldPosition-line (negsuc k) n = refl
+  pub positionOutput-line : (z : ℤ) → z ≢ pos 0 → positionOutput kind number z ≡ positionLine kind number z
+  positionOutput-line (pos zero) n = absurd (n refl)
+  positionOutput-line (pos (suc k)) n = refl
+  positionOutput-line (negsuc k) n = refl
 
-  pub length-toldPosition : (z : ℤ) → length (toldPosition kind number z) ≤ positionLength
-  length-toldPosition (pos zero) = omega arith
-  length-toldPosition (pos (suc k)) = omega (arith, length-positionLine kind number (pos (suc k)))
-  length-toldPosition (negsuc k) = omega (arith, length-positionLine kind number (negsuc k))
+  pub length-positionOutput : (z : ℤ) → length (positionOutput kind number z) ≤ positionLength
+  length-positionOutput (pos zero) = omega arith
+  length-positionOutput (pos (suc k)) = omega (arith, length-positionLine kind number (pos (suc k)))
+  length-positionOutput (negsuc k) = omega (arith, length-positionLine kind number (negsuc k))
 
 -- ---- the positions of a kind, by the figure of each number
 
 module _ (kind : ℕ) (figure : ℕ → ℤ) where
-  pub toldFigures-none : toldFigures kind figure 0 ≡ []
-  unfolding toldFigures
-  toldFigures-none = refl
+  pub figuresOutput-none : figuresOutput kind figure 0 ≡ []
+  unfolding figuresOutput
+  figuresOutput-none = refl
 
   -- the next number
-  pub toldFigures-more :
-      (n : ℕ) → toldFigures kind figure (n + 1) ≡ toldFigures kind figure n ++ toldPosition kind (n + 1) (figure (n + 1))
-  unfolding toldFigures
-  toldFigures-more n = rw (add-one)
+  pub figuresOutput-more :
+      (n : ℕ) → figuresOutput kind figure (n + 1) ≡ figuresOutput kind figure n ++ positionOutput kind (n + 1) (figure (n + 1))
+  unfolding figuresOutput
+  figuresOutput-more n = rw (add-one)
 
   -- a line for each number at most
-  pub length-toldFigures : (n : ℕ) → length (toldFigures kind figure n) ≤ n * positionLength
-  unfolding toldFigures
-  length-toldFigures zero = omega arith
-  length-toldFigures (suc n) =
+  pub length-figuresOutput : (n : ℕ) → length (figuresOutput kind figure n) ≤ n * positionLength
+  unfolding figuresOutput
+  length-figuresOutput zero = omega arith
+  length-figuresOutput (suc n) =
       omega (
         arith,
-        length-append (toldFigures kind figure n) (toldPosition kind (suc n) (figure (suc n))),
-        length-toldFigures n,
-        length-toldPosition kind (suc n) (figure (suc n)),
+        length-append (figuresOutput kind figure n) (positionOutput kind (suc n) (figure (suc n))),
+        length-figuresOutput n,
+        length-positionOutput kind (suc n) (figure (suc n)),
       )
 
-pub toldFigures-same : (kind : ℕ) (f g : ℕ → ℤ) (n : ℕ)
+pub figuresOutput-same : (kind : ℕ) (f g : ℕ → ℤ) (n : ℕ)
     → ((i : ℕ) → i < n → f (suc i) ≡ g (suc i))
-    → toldFigures kind f n ≡ toldFigures kind g n
-unfolding toldFigures
-toldFigures-same kind f g zero h = refl
-toldFigures-same kind f g (suc n) h =
-    ap (λ (x : List ℕ). x ++ toldPosition kind (suc n) (f (suc n))) (toldFigures-same kind f g n (λ i k. h i (omega arith)))
-    ∙ ap (λ (z : ℤ). toldFigures kind g n ++ toldPosition kind (suc n) z) (h n (omega arith))
+    → figuresOutput kind f n ≡ figuresOutput kind g n
+unfolding figuresOutput
+figuresOutput-same kind f g zero h = refl
+figuresOutput-same kind f g (suc n) h =
+    ap (λ (x : List ℕ). x ++ positionOutput kind (suc n) (f (suc n))) (figuresOutput-same kind f g n (λ i k. h i (omega arith)))
+    ∙ ap (λ (z : ℤ). figuresOutput kind g n ++ positionOutput kind (suc n) z) (h n (omega arith))
 
 -- ---- the whole listing
 
 module _ (l : Ledger) where
-  pub toldPositions-kinds :
-      toldPositions l
-      ≡ toldKind l 1 creditorCount ++ toldKind l 2 debtorCount ++ toldKind l 3 bankCount ++ positionLine 4 0 (l .compensation)
-  unfolding toldPositions
-  toldPositions-kinds = refl
+  pub positionsOutput-kinds :
+      positionsOutput l
+      ≡ kindOutput l 1 creditorCount ++ kindOutput l 2 debtorCount ++ kindOutput l 3 bankCount ++ positionLine 4 0 (l .compensation)
+  unfolding positionsOutput
+  positionsOutput-kinds = refl
 
   -- a line for each party and bank, and one for the total
-  pub length-toldPositions : length (toldPositions l) ≤ (creditorCount + debtorCount + bankCount + 1) * positionLength
-  unfolding toldPositions
-  length-toldPositions =
-      let a = toldKind l 1 creditorCount in
-      let b = toldKind l 2 debtorCount in
-      let c = toldKind l 3 bankCount in
+  pub length-positionsOutput : length (positionsOutput l) ≤ (creditorCount + debtorCount + bankCount + 1) * positionLength
+  unfolding positionsOutput
+  length-positionsOutput =
+      let a = kindOutput l 1 creditorCount in
+      let b = kindOutput l 2 debtorCount in
+      let c = kindOutput l 3 bankCount in
       let t = positionLine 4 0 (l .compensation) in
       omega (
         arith,
-        length-toldFigures 1 (figureOf l 1) creditorCount,
-        length-toldFigures 2 (figureOf l 2) debtorCount,
-        length-toldFigures 3 (figureOf l 3) bankCount,
+        length-figuresOutput 1 (figureOf l 1) creditorCount,
+        length-figuresOutput 2 (figureOf l 2) debtorCount,
+        length-figuresOutput 3 (figureOf l 3) bankCount,
         length-positionLine 4 0 (l .compensation),
         length-append a b,
         length-append (a ++ b) c,

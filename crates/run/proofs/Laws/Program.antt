@@ -15,11 +15,11 @@ use Rattle.model.specs.declared.QueryAnswer.the-variants.{Figure, Refused}
 use Rattle.model.specs.Step.{after, inQuery, figureOf, query, answered, run, Entry, history}
 use Rattle.model.specs.Journal.{Journal, journal, figureIn}
 use Rattle.model.proofs.Laws.Theorem.{demand3}
-use Rattle.run.specs.Run.{toldPositions, toldJournal}
+use Rattle.run.specs.Run.{positionsOutput, journalOutput}
 use Rattle.run.specs.Lines.{answeredLines, eventsOf}
 use Rattle.run.specs.Promises.{ProgramKept}
 use Rattle.run.proofs.Laws.Lines.{line-by-line}
-use Rattle.run.proofs.Laws.Positions.{toldFigures-same}
+use Rattle.run.proofs.Laws.Positions.{figuresOutput-same}
 
 -- ---- the listing
 
@@ -39,12 +39,12 @@ module _ (l : Ledger) (j : Journal) (figures : (kind number : ℕ) → inQuery k
   same : (kind number : ℕ) → inQuery kind number ≡ true → figureOf l kind number ≡ figureIn j kind number
   same kind number q = query-figures l kind number (figureIn j kind number) (figures kind number q)
 
-  listing-same : toldPositions l ≡ toldJournal j
-  unfolding toldPositions toldJournal
+  listing-same : positionsOutput l ≡ journalOutput j
+  unfolding positionsOutput journalOutput
   listing-same =
-      let a = toldFigures-same 1 (figureOf l 1) (figureIn j 1) creditorCount (λ i h. same 1 (suc i) (rw (le-leb 1 (suc i) (omega arith), le-leb (suc i) creditorCount (omega arith)))) in
-      let b = toldFigures-same 2 (figureOf l 2) (figureIn j 2) debtorCount (λ i h. same 2 (suc i) (rw (le-leb 1 (suc i) (omega arith), le-leb (suc i) debtorCount (omega arith)))) in
-      let c = toldFigures-same 3 (figureOf l 3) (figureIn j 3) bankCount (λ i h. same 3 (suc i) (rw (le-leb 1 (suc i) (omega arith), le-leb (suc i) bankCount (omega arith)))) in
+      let a = figuresOutput-same 1 (figureOf l 1) (figureIn j 1) creditorCount (λ i h. same 1 (suc i) (rw (le-leb 1 (suc i) (omega arith), le-leb (suc i) creditorCount (omega arith)))) in
+      let b = figuresOutput-same 2 (figureOf l 2) (figureIn j 2) debtorCount (λ i h. same 2 (suc i) (rw (le-leb 1 (suc i) (omega arith), le-leb (suc i) debtorCount (omega arith)))) in
+      let c = figuresOutput-same 3 (figureOf l 3) (figureIn j 3) bankCount (λ i h. same 3 (suc i) (rw (le-leb 1 (suc i) (omega arith), le-leb (suc i) bankCount (omega arith)))) in
       rw (a, b, c, same 4 0 refl)
 
 -- ---- the whole
@@ -55,11 +55,11 @@ program-kept t z text =
     let ls = answeredLines 0 text in
     let es = eventsOf ls in
     let k = demand3 t z es in
-    let told = line-by-line l 0 text in
+    let written = line-by-line l 0 text in
     record {
       all-kept = k;
       listing =
-          ap toldPositions (told .after)
+          ap positionsOutput (written .after)
           ∙ listing-same (run l es) (journal (history l es)) (k .figures)
-          ∙ ap (λ (h : List Entry). toldJournal (journal h)) (told .accepted);
+          ∙ ap (λ (h : List Entry). journalOutput (journal h)) (written .accepted);
     }

@@ -16,7 +16,7 @@ use Rattle.common.specs.Tests.{allOf}
 use Rattle.common.proofs.Tests.{true-or-false, and-halves, and-true, allOf-at}
 use Rattle.common.proofs.Made.{allOf-made}
 use Rattle.common.proofs.Walk.{allFrom-at, allFrom-made}
-use Rattle.positions.specs.Positions.{position, within, Within}
+use Rattle.positions.specs.Positions.{position, inLimit, InLimit}
 use Rattle.positions.proofs.Laws.Integers.{within-size, size-within}
 use Rattle.tables.specs.Ledger.{Ledger}
 use Rattle.tables.specs.Rows.{rows}
@@ -31,7 +31,7 @@ use Rattle.safety.proofs.Laws.Sums.{sum-small}
 -- ---- a table
 
 module _ (m : ℕ) (positions : List ℤ) where
-  pub within-facts : withinSpent m positions ≡ true → Within m positions
+  pub within-facts : withinSpent m positions ≡ true → InLimit m positions
   unfolding withinSpent position
   within-facts e zero = omega arith
   within-facts e (suc i) =
@@ -40,7 +40,7 @@ module _ (m : ℕ) (positions : List ℤ) where
       (λ q. rw (List·getD-eq-default positions (pos 0) (ltb-false i (length positions) q)) (omega arith))
       (true-or-false (ltb i (length positions)))
 
-  pub within-made : Within m positions → withinSpent m positions ≡ true
+  pub within-made : InLimit m positions → withinSpent m positions ≡ true
   unfolding withinSpent position
   within-made w =
       allFrom-made (withinAt m positions) (length positions) (λ i h. size-within m (getD positions i (pos 0)) (w (suc i)))
@@ -56,7 +56,7 @@ module _ (l : Ledger) where
       withinSpent (spent l) (l .creditorPositions)
       ∷ withinSpent (spent l) (l .debtorPositions)
       ∷ withinSpent (spent l) (l .bankPositions)
-      ∷ within (spent l) (l .compensation)
+      ∷ inLimit (spent l) (l .compensation)
       ∷ []
 
   bounded-facts : fit l ≡ true → bounded l ≡ true → Bounded l

@@ -15,7 +15,7 @@ use Rattle.positions.specs.Limits.{rowMove}
 use Rattle.tables.specs.declared.State.the-variants.{Undone}
 use Rattle.tables.specs.declared.Undoing.the-variants.{Return, Refund, Reversal}
 use Rattle.tables.specs.Limits.{stride}
-use Rattle.tables.specs.Records.{stateOf, collectionOf}
+use Rattle.tables.specs.Records.{stateOf, collectionFrom}
 use Rattle.tables.specs.Rows.{collectionAt}
 use Rattle.tables.specs.Ledger.{Ledger}
 use Rattle.model.specs.Bounds.{sumRows, moved, movedAt, spent}
@@ -46,7 +46,7 @@ moved-state (suc (suc (suc n))) day =
 
 module _ (cells : List ℕ) where
   tag-moved : (row : ℕ) → movedAt cells row ≡ tagMoved (getD cells (row * stride + 7) 0)
-  unfolding collectionAt collectionOf
+  unfolding collectionAt collectionFrom
   tag-moved row = moved-state (getD cells (row * stride + 7) 0) (getD cells (row * stride + 8) 0)
 
   -- one row more

@@ -20,7 +20,7 @@ use Rattle.common.proofs.Walk.{all-left, firstFrom-miss, firstFrom-cases, first
 use Rattle.tables.specs.declared.Found.{Found}
 use Rattle.tables.specs.declared.Found.the-variants.{At, Nothing}
 use Rattle.tables.specs.Limits.{stride}
-use Rattle.tables.specs.Records.{mandateOf, collectionOf}
+use Rattle.tables.specs.Records.{mandateFrom, collectionFrom}
 use Rattle.tables.specs.Rows.{rows, putRow, mandateAt, collectionAt}
 use Rattle.tables.specs.Lookup.{numberAt, numberIs, existing, lookup, lookupSince, MayStart}
 use Rattle.tables.proofs.Laws.Rows.{rows-put, cell-put-same, cell-put-other}
@@ -205,11 +205,11 @@ module _ (cells : List ℕ) (used number : ℕ) where
 -- ---- a row's number in its record
 
 pub mandateAt-number : (cells : List ℕ) (row : ℕ) → mandateAt cells row .number ≡ numberAt cells row
-unfolding mandateAt mandateOf
+unfolding mandateAt mandateFrom
 mandateAt-number cells row = rw (add-zero (row * stride))
 
 pub collectionAt-number : (cells : List ℕ) (row : ℕ) → collectionAt cells row .number ≡ numberAt cells row
-unfolding collectionAt collectionOf
+unfolding collectionAt collectionFrom
 collectionAt-number cells row = rw (add-zero (row * stride))
 
 -- ---- rows that stay

@@ -9,7 +9,7 @@ use Rattle.tables.specs.declared.Collection.{Collection}
 use Rattle.tables.specs.declared.State.{State}
 use Rattle.tables.specs.declared.State.the-variants.{Presented, Rejected, Settled, Undone}
 use Rattle.tables.specs.declared.Undoing.the-variants.{Return, Refund, Reversal}
-use Rattle.tables.specs.Records.{standingTag, standingOf, flagCell, flagOf, mandateCells, mandateOf, stateTag, stateDay, stateOf, collectionCells, collectionOf}
+use Rattle.tables.specs.Records.{standingTag, standingOf, flagCell, flagOf, mandateCells, mandateFrom, stateTag, stateDay, stateOf, collectionCells, collectionFrom}
 
 -- ---- a mandate
 
@@ -22,9 +22,9 @@ flagOf-cell : (b : Bool) → flagOf (flagCell b) ≡ b
 flagOf-cell true = refl
 flagOf-cell false = refl
 
-pub mandateOf-cells : (m : Mandate) → mandateOf (mandateCells m) ≡ m
-unfolding mandateOf
-mandateOf-cells m = rw (standingOf-tag (m .standing), flagOf-cell (m .first))
+pub mandateFrom-cells : (m : Mandate) → mandateFrom (mandateCells m) ≡ m
+unfolding mandateFrom
+mandateFrom-cells m = rw (standingOf-tag (m .standing), flagOf-cell (m .first))
 
 -- ---- a collection
 
@@ -36,6 +36,6 @@ stateOf-cells (Undone day Return) = refl
 stateOf-cells (Undone day Refund) = refl
 stateOf-cells (Undone day Reversal) = refl
 
-pub collectionOf-cells : (c : Collection) → collectionOf (collectionCells c) ≡ c
-unfolding collectionOf
-collectionOf-cells c = rw (stateOf-cells (c .state))
+pub collectionFrom-cells : (c : Collection) → collectionFrom (collectionCells c) ≡ c
+unfolding collectionFrom
+collectionFrom-cells c = rw (stateOf-cells (c .state))

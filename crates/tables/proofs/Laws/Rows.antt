@@ -18,9 +18,9 @@ use Rattle.common.proofs.Tests.{true-or-false}
 use Rattle.tables.specs.declared.Mandate.{Mandate}
 use Rattle.tables.specs.declared.Collection.{Collection}
 use Rattle.tables.specs.Limits.{stride}
-use Rattle.tables.specs.Records.{mandateCells, mandateOf, collectionCells, collectionOf}
+use Rattle.tables.specs.Records.{mandateCells, mandateFrom, collectionCells, collectionFrom}
 use Rattle.tables.specs.Rows.{rowsOf, cellsFrom, rowAt, putRow, rows, mandateAt, putMandate, collectionAt, putCollection}
-use Rattle.tables.proofs.Laws.Records.{mandateOf-cells, collectionOf-cells}
+use Rattle.tables.proofs.Laws.Records.{mandateFrom-cells, collectionFrom-cells}
 
 -- ---- a run of stores
 
@@ -200,20 +200,20 @@ module _ (w : ℕ) (cells : List ℕ) (row : ℕ) (fields : List ℕ) where
 module _ (cells : List ℕ) (row : ℕ) where
   pub mandateAt-put-same : (m : Mandate) → row < rows cells → mandateAt (putMandate cells row m) row ≡ m
   unfolding mandateAt
-  mandateAt-put-same m h = ap mandateOf (rowAt-put-same stride cells row (mandateCells m) refl (omega arith) h) ∙ mandateOf-cells m
+  mandateAt-put-same m h = ap mandateFrom (rowAt-put-same stride cells row (mandateCells m) refl (omega arith) h) ∙ mandateFrom-cells m
 
   pub mandateAt-put-other :
       (m : Mandate) (other : ℕ) → other ≢ row → mandateAt (putMandate cells row m) other ≡ mandateAt cells other
   unfolding mandateAt
-  mandateAt-put-other m other ne = ap mandateOf (rowAt-put-other stride cells row (mandateCells m) refl other ne)
+  mandateAt-put-other m other ne = ap mandateFrom (rowAt-put-other stride cells row (mandateCells m) refl other ne)
 
   pub collectionAt-put-same : (c : Collection) → row < rows cells → collectionAt (putCollection cells row c) row ≡ c
   unfolding collectionAt
   collectionAt-put-same c h =
-      ap collectionOf (rowAt-put-same stride cells row (collectionCells c) refl (omega arith) h) ∙ collectionOf-cells c
+      ap collectionFrom (rowAt-put-same stride cells row (collectionCells c) refl (omega arith) h) ∙ collectionFrom-cells c
 
   pub collectionAt-put-other :
       (c : Collection) (other : ℕ) → other ≢ row
       → collectionAt (putCollection cells row c) other ≡ collectionAt cells other
   unfolding collectionAt
-  collectionAt-put-other c other ne = ap collectionOf (rowAt-put-other stride cells row (collectionCells c) refl other ne)
+  collectionAt-put-other c other ne = ap collectionFrom (rowAt-put-other stride cells row (collectionCells c) refl other ne)

@@ -1,5 +1,5 @@
--- Laws of specs/Text, for the functions of src/text.rt in their order. To cite: `line-refused`, `line-taken`, `line-event`; `told-none`, `told-line`;
--- `Telling` with `telling-start`, `telling-line`, `telling-end`. Assumes nothing.
+-- Laws of specs/Text, for the functions of src/text.rt in their order. To cite: `line-refused`, `line-taken`, `line-event`; `output-none`, `output-line`;
+-- `AnsweredTo` with `answered-start`, `answered-line`, `answered-end`. Assumes nothing.
 use mathlib.Core.Path.{_≡_, refl, sym, ap, _∙_}
 use mathlib.Core.Bool.{Bool, true, false, cond}
 use mathlib.Core.Logic.{_≢_}
@@ -33,16 +33,16 @@ use Rattle.index.proofs.Laws.Following.{indexed-kept}
 use Rattle.model.proofs.Laws.Batch.{after-safe}
 use Rattle.model.proofs.Laws.Grown.{mandates-grown, collections-grown}
 use Rattle.report.specs.Layout.{answerLength, answerLine, answerFits, lastNumber, lastAnswer}
-use Rattle.run.specs.Run.{Run, runAt, keptLength, kept, answerTo, afterLine, ended, toldEnded, takeText, toldText}
+use Rattle.run.specs.Run.{Run, runAt, clippedLength, clipped, answerTo, afterLine, ended, lineOutput, takeText, textOutput}
 use Rattle.report.proofs.Laws.Cut.{FirstEnd}
 use Rattle.digits.proofs.Laws.Buffer.{pasted-next}
 use Rattle.report.proofs.Laws.Layout.{length-answerLine, answerFits-made}
-use Rattle.run.proofs.Laws.Run.{Answering, answering-start, answering-line, rest-after, rest-told}
+use Rattle.run.proofs.Laws.Run.{Answering, answering-start, answering-line, rest-after, rest-output}
 use Rattle.checking.specs.declared.Outcome.{Outcome}
 use Rattle.book.specs.Events.{Taken}
 use Rattle.text.specs.declared.text.Progress.{Progress}
 use Rattle.text.specs.declared.text.Lines.{Lines}
-use Rattle.text.specs.Text.{Prepared, WhenKnown, LineTaken, LineTold, LinesAnswered, unfitPiece, pieceFits, PieceTaken}
+use Rattle.text.specs.Text.{Prepared, WhenPrepared, LineTaken, LineAnswered, LinesAnswered, unfitPiece, pieceFits, PieceTaken}
 
 -- ---- a line
 
@@ -72,30 +72,30 @@ pasted-none : (at : ℕ) (out : List ℕ) → out ≡ pasted at [] out
 pasted-none at out =
     sym (take-append-drop at out) ∙ ap (λ (n : ℕ). take at out ++ drop n out) (sym (add-zero at))
 
-pub told-none : (l : Ledger) (p : Progress) (line out : List ℕ) → lastNumber ≤ p .lines → LineTold l p line out p l out
-told-none l p line out h =
+pub output-none : (l : Ledger) (p : Progress) (line out : List ℕ) → lastNumber ≤ p .lines → LineAnswered l p line out p l out
+output-none l p line out h =
     let f = le-ltb (p .lines) lastNumber h in
-    record { run = rw f; bytes = rw f (pasted-none (p .told) out); told = rw f (sym (add-zero (p .told))) }
+    record { run = rw f; bytes = rw f (pasted-none (p .written) out); written = rw f (sym (add-zero (p .written))) }
 
 -- the number of an answer has at most three digits
 answer-narrow : (a : Answer) → answerNumber a ≤ lastAnswer
 answer-narrow Accepted = omega arith
 answer-narrow (Refused r) = omega (arith, numberOf-most r)
 
-module _ (l : Ledger) (p : Progress) (line out : List ℕ) (h : p .lines < lastNumber) (room : p .told + answerLength ≤ length out) where
-  pub told-line : (r : Outcome) (l' : Ledger) (number : ℕ) (out' : List ℕ)
+module _ (l : Ledger) (p : Progress) (line out : List ℕ) (h : p .lines < lastNumber) (room : p .written + answerLength ≤ length out) where
+  pub output-line : (r : Outcome) (l' : Ledger) (number : ℕ) (out' : List ℕ)
       → LineTaken l line r l'
       → number ≡ answerNumber (r .answer)
-      → out' ≡ cond (answerFits (p .told) (p .lines + 1) number out) (pasted (p .told) (answerLine (p .lines + 1) number) out) out
-      → LineTold l p line out (record { header = r .header; lines = p .lines + 1; told = p .told + answerLength }) l' out'
-  told-line r l' number out' t e w =
+      → out' ≡ cond (answerFits (p .written) (p .lines + 1) number out) (pasted (p .written) (answerLine (p .lines + 1) number) out) out
+      → LineAnswered l p line out (record { header = r .header; lines = p .lines + 1; written = p .written + answerLength }) l' out'
+  output-line r l' number out' t e w =
       let f = lt-ltb (p .lines) lastNumber h in
       let q : number ≡ answerNumber (answerTo l (readLine line)) = e ∙ ap answerNumber (t .answer-is) in
-      let fits = answerFits-made (p .told) (p .lines + 1) number out room (omega arith) (rw e (answer-narrow (r .answer))) in
+      let fits = answerFits-made (p .written) (p .lines + 1) number out room (omega arith) (rw e (answer-narrow (r .answer))) in
       record {
         run = rw (f, t .after-is);
         bytes = rw (f, ← q) (rw fits at w);
-        told = rw f (ap (λ (n : ℕ). p .told + n) (sym (length-answerLine (p .lines + 1) (answerNumber (answerTo l (readLine line))))));
+        written = rw f (ap (λ (n : ℕ). p .written + n) (sym (length-answerLine (p .lines + 1) (answerNumber (answerTo l (readLine line))))));
       }
 
 -- ---- the lines of a text
@@ -119,7 +119,7 @@ module _ (mandateIndex collectionIndex : List ℕ) where
       by-more false = p
 
 -- a line writes one answer at most
-ended-short : (r : Run) (line : List ℕ) → length (toldEnded r line) ≤ answerLength
+ended-short : (r : Run) (line : List ℕ) → length (lineOutput r line) ≤ answerLength
 ended-short r line = by-more (ltb (r .lines) lastNumber)
   where
     by-more : (more : Bool) → length (cond more (answerLine (r .lines + 1) (answerNumber (answerTo (r .book) (readLine line)))) []) ≤ answerLength
@@ -127,78 +127,78 @@ ended-short r line = by-more (ltb (r .lines) lastNumber)
     by-more false = omega arith
 
 -- the lines before a place have been answered
-pub record Telling
-    (known : Bool) (mandateIndex collectionIndex : List ℕ) (s : Run) (text out : List ℕ) (at : ℕ) (l : Ledger) (p : Progress) (out' : List ℕ) : Type 0 where
-  pub tested : WhenKnown known mandateIndex collectionIndex l
-  pub answered : Answering s text at l (p .lines) (toldText s (take at text))
-  pub bytes : out' ≡ pasted 0 (toldText s (take at text)) out
-  pub told : p .told ≡ length (toldText s (take at text))
-  pub few : p .told ≤ answerLength * at
+pub record AnsweredTo
+    (prepared : Bool) (mandateIndex collectionIndex : List ℕ) (s : Run) (text out : List ℕ) (at : ℕ) (l : Ledger) (p : Progress) (out' : List ℕ) : Type 0 where
+  pub tested : WhenPrepared prepared mandateIndex collectionIndex l
+  pub answered : Answering s text at l (p .lines) (textOutput s (take at text))
+  pub bytes : out' ≡ pasted 0 (textOutput s (take at text)) out
+  pub written : p .written ≡ length (textOutput s (take at text))
+  pub few : p .written ≤ answerLength * at
   pub inside : at ≤ length text
 
-module _ (known : Bool) (mandateIndex collectionIndex text out : List ℕ) where
-  pub telling-start : (l : Ledger) (p : Progress)
-      → WhenKnown known mandateIndex collectionIndex l
-      → p .told ≡ 0
-      → Telling known mandateIndex collectionIndex (runAt l (p .lines) []) text out 0 l p out
-  unfolding takeText toldText
-  telling-start l p k z =
+module _ (prepared : Bool) (mandateIndex collectionIndex text out : List ℕ) where
+  pub answered-start : (l : Ledger) (p : Progress)
+      → WhenPrepared prepared mandateIndex collectionIndex l
+      → p .written ≡ 0
+      → AnsweredTo prepared mandateIndex collectionIndex (runAt l (p .lines) []) text out 0 l p out
+  unfolding takeText textOutput
+  answered-start l p k z =
       record {
         tested = k;
         answered = answering-start l (p .lines) text;
         bytes = refl;
-        told = z;
+        written = z;
         few = omega arith;
         inside = omega arith;
       }
 
   -- one line more, from at to k
   module _ (s : Run) (at k : ℕ) (f : FirstEnd text at k) where
-    pub telling-line : (l l' : Ledger) (p r : Progress) (line mid next : List ℕ)
-        → Telling known mandateIndex collectionIndex s text out at l p mid
+    pub answered-line : (l l' : Ledger) (p r : Progress) (line mid next : List ℕ)
+        → AnsweredTo prepared mandateIndex collectionIndex s text out at l p mid
         → line ≡ take (k + 1 - at) (drop at text)
-        → LineTold l p line mid r l' next
-        → Telling known mandateIndex collectionIndex s text out (k + 1) l' r next
-    telling-line l l' p r line mid next t e w =
-        let told = toldText s (take at text) in
-        let more = toldEnded (runAt l (p .lines) []) line in
-        let a = answering-line text at k f s l (p .lines) told line (t .answered) e l' (r .lines) (w .run) in
-        let q : toldText s (take (k + 1) text) ≡ told ++ more = a .so-far in
-        let n : length (toldText s (take (k + 1) text)) ≡ length told + length more = ap length q ∙ length-append told more in
+        → LineAnswered l p line mid r l' next
+        → AnsweredTo prepared mandateIndex collectionIndex s text out (k + 1) l' r next
+    answered-line l l' p r line mid next t e w =
+        let written = textOutput s (take at text) in
+        let more = lineOutput (runAt l (p .lines) []) line in
+        let a = answering-line text at k f s l (p .lines) written line (t .answered) e l' (r .lines) (w .run) in
+        let q : textOutput s (take (k + 1) text) ≡ written ++ more = a .so-far in
+        let n : length (textOutput s (take (k + 1) text)) ≡ length written + length more = ap length q ∙ length-append written more in
         record {
           tested = λ i. rw (ap (λ (x : Run). x .book) (w .run)) (ended-prepared mandateIndex collectionIndex l (p .lines) line (t .tested i));
           answered = record { now = a .now; so-far = refl };
-          bytes = rw q (pasted-next 0 told out (p .told) more mid next (omega arith) (sym (t .told)) (t .bytes) (rw (zero-add) (w .bytes)));
-          told = omega (arith, w .told, t .told, n);
-          few = omega (arith, w .told, t .few, ended-short (runAt l (p .lines) []) line, f .onward);
+          bytes = rw q (pasted-next 0 written out (p .written) more mid next (omega arith) (sym (t .written)) (t .bytes) (rw (zero-add) (w .bytes)));
+          written = omega (arith, w .written, t .written, n);
+          few = omega (arith, w .written, t .few, ended-short (runAt l (p .lines) []) line, f .onward);
           inside = omega (arith, f .inside);
         }
 
   -- no line ends behind the place
-  pub telling-end : (s : Run) (at : ℕ) (l : Ledger) (p : Progress) (out' : List ℕ) (h : Header)
-      → Telling known mandateIndex collectionIndex s text out at l p out'
+  pub answered-end : (s : Run) (at : ℕ) (l : Ledger) (p : Progress) (out' : List ℕ) (h : Header)
+      → AnsweredTo prepared mandateIndex collectionIndex s text out at l p out'
       → ((j : ℕ) → at ≤ j → j < length text → getD text j 0 ≢ lineEnd)
-      → LinesAnswered s text out (record { header = h; lines = p .lines; told = p .told; at = at }) l out'
-  telling-end s at l p out' h t none =
-      let q = rest-told text at none s l (p .lines) (toldText s (take at text)) (t .answered) in
+      → LinesAnswered s text out (record { header = h; lines = p .lines; written = p .written; at = at }) l out'
+  answered-end s at l p out' h t none =
+      let q = rest-output text at none s l (p .lines) (textOutput s (take at text)) (t .answered) in
       record {
-        run = rest-after text at none s l (p .lines) (toldText s (take at text)) (t .answered);
+        run = rest-after text at none s l (p .lines) (textOutput s (take at text)) (t .answered);
         bytes = rw q (t .bytes);
-        told = rw q (t .told);
+        written = rw q (t .written);
         inside = t .inside;
       }
 
 -- the room for the next line's answer
-pub line-room : (told at k long room : ℕ) → told ≤ answerLength * at → at ≤ k → k < long → answerLength * long ≤ room → told + answerLength ≤ room
-line-room told at k long room a b c d = omega arith
+pub line-room : (written at k long room : ℕ) → written ≤ answerLength * at → at ≤ k → k < long → answerLength * long ≤ room → written + answerLength ≤ room
+line-room written at k long room a b c d = omega arith
 
--- ---- the line that has begun
+-- ---- the partial line
 
 -- its bytes, as many as are kept
-pub begun-length : (text : List ℕ) (at filled n : ℕ) → at ≤ filled → filled ≤ length text → n ≡ min (filled - at) keptLength → n ≡ length (kept (drop at (take filled text)))
-begun-length text at filled n h k e =
+pub partial-length : (text : List ℕ) (at filled n : ℕ) → at ≤ filled → filled ≤ length text → n ≡ min (filled - at) clippedLength → n ≡ length (clipped (drop at (take filled text)))
+partial-length text at filled n h k e =
     e
-    ∙ omega (arith, length-take keptLength (drop at (take filled text)), length-drop at (take filled text), length-take-le filled text k)
+    ∙ omega (arith, length-take clippedLength (drop at (take filled text)), length-drop at (take filled text), length-take-le filled text k)
 
 -- the first i bytes have been moved to the front
 pub record Moving (text : List ℕ) (at i : ℕ) (now : List ℕ) : Type 0 where
@@ -248,27 +248,27 @@ module _ (text : List ℕ) (at : ℕ) where
 pub moving-end : (text : List ℕ) (at filled n i : ℕ) (now : List ℕ)
     → at ≤ filled
     → filled ≤ length text
-    → n ≡ min (filled - at) keptLength
+    → n ≡ min (filled - at) clippedLength
     → i ≡ n
     → Moving text at i now
-    → now ≡ pasted 0 (kept (drop at (take filled text))) text
+    → now ≡ pasted 0 (clipped (drop at (take filled text))) text
 moving-end text at filled n i now h k e q m =
     m .bytes ∙ ap (λ (x : List ℕ). pasted 0 x text) (ap (λ (z : ℕ). take z (drop at text)) q ∙ kept-same)
   where
-    kept-same : take n (drop at text) ≡ kept (drop at (take filled text))
+    kept-same : take n (drop at text) ≡ clipped (drop at (take filled text))
     kept-same =
         let d = drop at text in
         let x = drop at (take filled text) in
         let m : n ≤ filled - at = omega arith in
         let c = length-take-le n d (omega (arith, length-drop at text)) in
-        ext-getD 0 (take n d) (kept x)
-        (c ∙ begun-length text at filled n h k e)
+        ext-getD 0 (take n d) (clipped x)
+        (c ∙ partial-length text at filled n h k e)
         (λ j l.
         getD-take n d j 0 (omega arith)
         ∙ getD-drop at text j 0
         ∙ sym (getD-take filled text (at + j) 0 (omega arith))
         ∙ sym (getD-drop at (take filled text) j 0)
-        ∙ sym (getD-take keptLength x j 0 (omega arith)))
+        ∙ sym (getD-take clippedLength x j 0 (omega arith)))
 
 -- ---- the call for a piece
 
@@ -290,26 +290,26 @@ module _ (l : Ledger) (lines filled : ℕ) (text out : List ℕ) where
   pub piece-refused : (h : Header) → pieceFits filled text out ≡ false → PieceTaken l lines filled text out (unfitPiece h lines filled) l text out
   piece-refused h f =
       record {
-        told = record { answer-is = rw f; number-is = rw f; book-is = rw f; lines-are = rw f; begun-is = rw f; told-is = rw f; out-is = rw f };
+        advanced = record { answer-is = rw f; number-is = rw f; book-is = rw f; lines-are = rw f; partial-is = rw f; written-is = rw f; out-is = rw f };
         text-is = rw f;
       }
 
-  pub piece-taken : (d : Lines) (h : Header) (begun : ℕ) (l' : Ledger) (text' out' : List ℕ)
+  pub piece-taken : (d : Lines) (h : Header) (partial : ℕ) (l' : Ledger) (text' out' : List ℕ)
       → pieceFits filled text out ≡ true
       → LinesAnswered (runAt l lines []) (take filled text) out d l' out'
-      → begun ≡ length (kept (drop (d .at) (take filled text)))
-      → text' ≡ pasted 0 (kept (drop (d .at) (take filled text))) text
-      → PieceTaken l lines filled text out (record { answer = Accepted; header = h; lines = d .lines; begun = begun; told = d .told }) l' text' out'
-  piece-taken d h begun l' text' out' f t b w =
+      → partial ≡ length (clipped (drop (d .at) (take filled text)))
+      → text' ≡ pasted 0 (clipped (drop (d .at) (take filled text))) text
+      → PieceTaken l lines filled text out (record { answer = Accepted; header = h; lines = d .lines; partial = partial; written = d .written }) l' text' out'
+  piece-taken d h partial l' text' out' f t b w =
       record {
-        told =
+        advanced =
             record {
               answer-is = rw f;
               number-is = rw f;
               book-is = rw (f, t .run);
               lines-are = rw (f, t .run);
-              begun-is = rw (f, t .run) b;
-              told-is = rw f (t .told);
+              partial-is = rw (f, t .run) b;
+              written-is = rw f (t .written);
               out-is = rw f (t .bytes);
             };
         text-is = rw (f, t .run) w;

@@ -29,7 +29,7 @@ use Rattle.positions.specs.declared.CompensationAnswer.the-variants.{Cents}
 use Rattle.positions.proofs.Laws.Compensation.{compensationOf-is}
 use Rattle.positions.proofs.Laws.Integers.{size-within}
 use Rattle.positions.proofs.Laws.Limits.{refundDays, compensation-bound}
-use Rattle.positions.proofs.Laws.Positions.{entry-isEntry}
+use Rattle.positions.proofs.Laws.Positions.{entry-hasEntry}
 use Rattle.positions.proofs.Laws.Postings.{AtMost, settlement-size, reversed-size, refunded-size}
 use Rattle.positions.proofs.Laws.Answers.{settlementOf-is, reversedOf-is, refundedOf-is}
 use Rattle.tables.specs.declared.Collection.{Collection}
@@ -57,7 +57,7 @@ use Rattle.model.specs.Checks.{isSettled, settledOn, stateFits, timeTreated, ru
 use Rattle.model.specs.Deadlines.{core, periodOf, lastDay, inTime, daysSince}
 use Rattle.model.specs.Effects.{treated, undone, effect}
 use Rattle.checking.specs.declared.Outcome.{Outcome}
-use Rattle.checking.specs.Calls.{usedRow, rowIn, Done}
+use Rattle.checking.specs.Calls.{usedRow, foundRow, Done}
 use Rattle.checking.proofs.Laws.Calls.{done-same, judged-passes}
 use Rattle.treatments.specs.declared.verdicts.Verdict.{Verdict}
 use Rattle.treatments.specs.Treatments.{treatChecks, treatJudged, refundFor, refundAfter, undoneOf, goVerdict, byAnswer, held, postable, answerFor, effectFor, Treated}
@@ -225,7 +225,7 @@ table-held :
     → held positions number x ≡ true
 table-held count number positions x h n s =
     rw (
-      entry-isEntry positions number (record { low = n .0; high = omega (arith, h .size, n .1) }),
+      entry-hasEntry positions number (record { low = n .0; high = omega (arith, h .size, n .1) }),
       size-within positionLimit (position positions number) (h .bounded number),
       size-within positionLimit x s,
     )
@@ -272,7 +272,7 @@ effect-by a v row date l e = rw e
 module _ (l : Ledger) (date number : ℕ) (t : Treatment) where
   treat-answer :
       (f : Found) → lookup (l .collections) (l .collectionsUsed) number ≡ f
-      → treatJudged (l .latest) date t (usedRow (l .collections) (l .collectionsUsed) f) (collectionAt (l .collections) (rowIn f)) ≡ ruled l date (Treat number t)
+      → treatJudged (l .latest) date t (usedRow (l .collections) (l .collectionsUsed) f) (collectionAt (l .collections) (foundRow f)) ≡ ruled l date (Treat number t)
   unfolding ruled collectionOf
   treat-answer Nothing e = rw e
   treat-answer (At row) e =
@@ -324,8 +324,8 @@ module _ (l : Ledger) (date number row : ℕ) (e : lookup (l .collections) (l .c
 module _ (l : Ledger) (date number : ℕ) (t : Treatment) (f : fit l ≡ true) (a : Asked t date) where
   by-found :
       (found : Found) → lookup (l .collections) (l .collectionsUsed) number ≡ found
-      → treatJudged (l .latest) date t (usedRow (l .collections) (l .collectionsUsed) found) (collectionAt (l .collections) (rowIn found)) ≡ Accepted
-      → Goes l date (rowIn found) t (collectionAt (l .collections) (rowIn found)) (effect l date (Treat number t))
+      → treatJudged (l .latest) date t (usedRow (l .collections) (l .collectionsUsed) found) (collectionAt (l .collections) (foundRow found)) ≡ Accepted
+      → Goes l date (foundRow found) t (collectionAt (l .collections) (foundRow found)) (effect l date (Treat number t))
   unfolding k
   by-found Nothing e q =
       absurd (never (judged-passes (treatChecks (l .latest) date t false (collectionAt (l .collections) 0)) refl q 2) refl)
@@ -337,10 +337,10 @@ module _ (l : Ledger) (date number : ℕ) (t : Treatment) (f : fit l ≡ true) (
       (r : Outcome) (l' : Ledger) (found : Found) → found ≡ lookup (l .collections) (l .collectionsUsed) number
       → Treated found l date t r l' → Done (ruled l date (Treat number t)) l (effect l date (Treat number t)) r l'
   treat-ruled r l' found e d =
-      let k = collectionAt (l .collections) (rowIn found) in
+      let k = collectionAt (l .collections) (foundRow found) in
       let j = treatJudged (l .latest) date t (usedRow (l .collections) (l .collectionsUsed) found) k in
       let v = goVerdict t date k in
       let same = answer-by j v l (λ q. by-found found (sym e) q .accepted) in
       done-same _ _ l _ _ r l' (same ∙ treat-answer l date number t found (sym e))
-      (λ q. let w = sym same ∙ q in effect-by j v (rowIn found) date l w ∙ by-found found (sym e) w .makes)
+      (λ q. let w = sym same ∙ q in effect-by j v (foundRow found) date l w ∙ by-found found (sym e) w .makes)
       d

@@ -10,11 +10,11 @@ use mir.Syntax.{w64}
 use mir.Val.{SFits, toZ, ofZ}
 use Rattle.common.proofs.Tests.{allOf-at}
 use Rattle.refusals.specs.declared.Refusal.{Refusal}
-use Rattle.positions.specs.Positions.{Entry, positionLimit, isEntry, position, posted, within}
+use Rattle.positions.specs.Positions.{HasEntry, positionLimit, hasEntry, position, posted, inLimit}
 use Rattle.positions.specs.Answers.{afterPost}
 use Rattle.positions.specs.declared.Postings.{Postings}
 use Rattle.positions.proofs.Laws.Integers.{size-add, size-fits, bits-back, within-size}
-use Rattle.positions.proofs.Laws.Positions.{isEntry-entry, entry-posted, size-posted}
+use Rattle.positions.proofs.Laws.Positions.{hasEntry-entry, entry-posted, size-posted}
 use Rattle.positions.proofs.Laws.Answers.{post-fits}
 use Rattle.tables.specs.declared.Collection.{Collection}
 use Rattle.tables.specs.declared.Header.{Header}
@@ -25,13 +25,13 @@ use Rattle.model.specs.declared.Answer.the-variants.{Accepted, Refused}
 use Rattle.model.specs.declared.Treatment.{Treatment}
 use Rattle.model.specs.Effects.{dated, keepCollection}
 use Rattle.checking.specs.declared.Outcome.{Outcome}
-use Rattle.checking.specs.Calls.{rowIn, Done}
+use Rattle.checking.specs.Calls.{foundRow, Done}
 use Rattle.treatments.specs.declared.verdicts.Verdict.the-variants.{Refuse, Mark, Post}
 use Rattle.treatments.specs.Treatments.{held, postable, headerAfter, payAnswer, payEffect, verdictAt, Treated}
 
 -- ---- two signed numbers, as 64 bits hold them
 
-module _ (a b : ℤ) (p : within positionLimit a ≡ true) (q : within positionLimit b ≡ true) where
+module _ (a b : ℤ) (p : inLimit positionLimit a ≡ true) (q : inLimit positionLimit b ≡ true) where
   pub sum-fits : SFits w64 (toZ w64 (ofZ w64 a) +ℤ toZ w64 (ofZ w64 b))
   sum-fits =
       let m = within-size positionLimit a p in
@@ -44,22 +44,22 @@ module _ (a b : ℤ) (p : within positionLimit a ≡ true) (q : within positionL
       let n = within-size positionLimit b q in
       rw (bits-back a (omega arith), bits-back b (omega arith)) (bits-back (a +ℤ b) (omega (arith, size-add a b)))
 
-pub amount-back : (a : ℤ) → within positionLimit a ≡ true → toZ w64 (ofZ w64 a) ≡ a
+pub amount-back : (a : ℤ) → inLimit positionLimit a ≡ true → toZ w64 (ofZ w64 a) ≡ a
 amount-back a p = let m = within-size positionLimit a p in bits-back a (omega arith)
 
 -- ---- amounts that can be posted
 
 pub record Held (l : List ℤ) (k : ℕ) (x : ℤ) : Type 0 where
-  pub entry : Entry l k
+  pub entry : HasEntry l k
   pub small : natAbs (position l k) ≤ positionLimit
-  pub amount-within : within positionLimit x ≡ true
+  pub amount-within : inLimit positionLimit x ≡ true
   pub amount : natAbs x ≤ positionLimit
 
 held-facts : (l : List ℤ) (k : ℕ) (x : ℤ) → held l k x ≡ true → Held l k x
 held-facts l k x h =
-    let tests = isEntry l k ∷ within positionLimit (position l k) ∷ within positionLimit x ∷ [] in
+    let tests = hasEntry l k ∷ inLimit positionLimit (position l k) ∷ inLimit positionLimit x ∷ [] in
     record {
-      entry = isEntry-entry l k (allOf-at tests 0 h);
+      entry = hasEntry-entry l k (allOf-at tests 0 h);
       small = within-size positionLimit (position l k) (allOf-at tests 1 h);
       amount-within = allOf-at tests 2 h;
       amount = within-size positionLimit x (allOf-at tests 2 h);
@@ -72,8 +72,8 @@ module _ (k : Collection) (p : Postings) (total : ℤ) (cp dp bp : List ℤ) (h 
       ∷ held dp (k .debtor) (p .debtor)
       ∷ held bp (k .dbank) (p .dbank)
       ∷ held bp (k .cbank) (p .cbank)
-      ∷ within positionLimit total
-      ∷ within positionLimit (p .compensation)
+      ∷ inLimit positionLimit total
+      ∷ inLimit positionLimit (p .compensation)
       ∷ []
 
   pub record Payable : Type 0 where
@@ -81,8 +81,8 @@ module _ (k : Collection) (p : Postings) (total : ℤ) (cp dp bp : List ℤ) (h 
     pub debtor : Held dp (k .debtor) (p .debtor)
     pub dbank : Held bp (k .dbank) (p .dbank)
     pub cbank : Held bp (k .cbank) (p .cbank)
-    pub sum : within positionLimit total ≡ true
-    pub cents : within positionLimit (p .compensation) ≡ true
+    pub sum : inLimit positionLimit total ≡ true
+    pub cents : inLimit positionLimit (p .compensation) ≡ true
 
   pub paid-within : Payable
   unfolding postable tests
@@ -99,7 +99,7 @@ module _ (k : Collection) (p : Postings) (total : ℤ) (cp dp bp : List ℤ) (h 
 
 -- a posting within the limit, to a table not far beyond it
 post-is :
-    (l : List ℤ) (k : ℕ) (x : ℤ) → Entry l k → natAbs (position l k) ≤ 2 * positionLimit → natAbs x ≤ positionLimit
+    (l : List ℤ) (k : ℕ) (x : ℤ) → HasEntry l k → natAbs (position l k) ≤ 2 * positionLimit → natAbs x ≤ positionLimit
     → afterPost l k x ≡ posted l k x
 post-is l k x e h g = post-fits l k x e (omega arith) (omega arith) .1
 
@@ -132,11 +132,11 @@ module _ (found : Found) (l : Ledger) (date : ℕ) (t : Treatment) where
   treat-refused h r e = rw e (record { answer-is = refl; after-is = refl })
 
   pub treat-marked :
-      (h : Header) (k : Collection) (l' : Ledger) → verdictAt found l date t ≡ Mark k → l' ≡ keepCollection (dated l date) (rowIn found) k
+      (h : Header) (k : Collection) (l' : Ledger) → verdictAt found l date t ≡ Mark k → l' ≡ keepCollection (dated l date) (foundRow found) k
       → Treated found l date t (record { answer = Accepted; header = h }) l'
   treat-marked h k l' e q = rw e (record { answer-is = refl; after-is = q })
 
   pub treat-paid :
       (k : Collection) (p : Postings) (r : Outcome) (l' : Ledger) → verdictAt found l date t ≡ Post k p
-      → Done (payAnswer k p l) l (payEffect (rowIn found) date k p l) r l' → Treated found l date t r l'
+      → Done (payAnswer k p l) l (payEffect (foundRow found) date k p l) r l' → Treated found l date t r l'
   treat-paid k p r l' e d = rw e d

@@ -1,5 +1,5 @@
 use Rattle.calendar.proofs.Laws.BusinessDates.{firstBusinessDay-day, firstBusinessDay-none}
-use Rattle.calendar.specs.Target.{dated}
+use Rattle.calendar.specs.Target.{answerDate}
 use mathlib.Core.Path.{sym, _∙_, ap}
 use borrow.Author.Needs.{needs}
 use Rattle.calendar.proofs.target.first_business_day.Statement.{statement}
@@ -24,7 +24,7 @@ returns : tie.Need-returns
 returns c =
     let s = c .before .before .before .before .before in
     c .date-of-day .ensures
-    ∙ ap dated (c .before .first-open .ensures)
+    ∙ ap answerDate (c .before .first-open .ensures)
     ∙ sym (firstBusinessDay-day _ _ (sym (s .day-number .ensures) ∙ c .before .before .before .n .given .1))
 
 returns-2 : tie.Need-returns-2

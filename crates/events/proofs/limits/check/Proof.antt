@@ -1,4 +1,4 @@
--- `check` makes the checks of `checks`, in their order.
+-- `check` makes the checks of `limitChecks`, in their order.
 -- Assumes nothing.
 use Rattle.events.proofs.Laws.Limits.{checked-kind, checked-date, checked-field, checked-within}
 use mathlib.Core.Path.{_≡_, sym, ap, _∙_}

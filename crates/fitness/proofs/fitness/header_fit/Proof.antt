@@ -14,8 +14,8 @@ compensation-fit-requires c κs = search needs
 returns : tie.Need-returns
 unfolding headerOf
 returns c =
-    let told = c .before .struct-told .given .1 .1 .1 .0 .1 in
-    let back = toZ-ofZ {w = w64} {z = c .before .before .before .before .before .before .before .args .header .compensation} (record { sfits = told }) in
+    let written = c .before .struct-told .given .1 .1 .1 .0 .1 in
+    let back = toZ-ofZ {w = w64} {z = c .before .before .before .before .before .before .before .args .header .compensation} (record { sfits = written }) in
     rw (c .before .before .none-or-date .ensures, c .compensation-fit .ensures, back)
 
 pub header-fit-spec : {M : Type 1} → statement M

@@ -1,4 +1,4 @@
--- `ending::end_text` meets its contract: refused, nothing has begun or may be answered, or the line is refused 1. Assumes nothing.
+-- `ending::end_text` meets its contract: refused, there is no partial line or none may be answered, or the line is refused 1. Assumes nothing.
 use native.Mathlib.Omega.{arith}
 use mathlib.Core.Path.{_≡_}
 use mathlib.Core.Bool.{true}
@@ -18,8 +18,8 @@ returns c = end-refused _ _ _ (lt-leb _ _ (c .if1 .taken))
 returns-2 : tie.Need-returns-2
 returns-2 c = end-none _ _ _ (le-leb _ _ (c .before .if1 .left)) (not-true (c .if2 .taken))
 
--- a line has begun and may be answered
-some : (c : tie.Else2) → endsLine (c .before .before .before .args .lines) (c .before .before .before .args .begun) ≡ true
+-- there is a partial line, and it may be answered
+some : (c : tie.Else2) → endsLine (c .before .before .before .args .lines) (c .before .before .before .args .partial) ≡ true
 some c = not-false (c .if2 .left)
 
 add-number : tie.Need-add-number

@@ -9,8 +9,8 @@ use mir.Syntax.{w64}
 use mir.Facts.{toZ-ofZ}
 use Rattle.digits.specs.Field.{pasted}
 use Rattle.report.specs.Layout.{positionFits}
-use Rattle.listing.specs.Listing.{toldTable}
-use Rattle.run.specs.Run.{toldPosition}
+use Rattle.listing.specs.Listing.{tableOutput}
+use Rattle.run.specs.Run.{positionOutput}
 use Rattle.digits.proofs.Laws.Buffer.{Written, written-length}
 use Rattle.listing.proofs.Laws.Listing.{table-start, table-inside, table-fits, table-more}
 use borrow.Author.Needs.{needs}
@@ -19,7 +19,7 @@ use Rattle.listing.proofs.listing.list_kind.Tie as tie
 
 abbrev Inv-loop : tie.InvT-loop
 Inv-loop out₀ at kind positions next₀ i₀ out next i =
-    (i ≤ length positions) × Written at out₀ (toldTable kind positions i) next out
+    (i ≤ length positions) × Written at out₀ (tableOutput kind positions i) next out
 
 abbrev μ-loop : tie.MeasureT-loop
 μ-loop out₀ at kind positions next₀ i₀ out next i = length positions - i
@@ -59,8 +59,8 @@ loop-again c =
       search needs,
       table-more (a .at) (a .kind) (a .positions .now) (a .out .now) (c .before .before .before .before .before .before .before .before .pre) (o .i) (o .next) (o .out) (o .inv .1) _ _
           (c .before .before .before .before .before .loop-test .taken)
-          (e .0 ∙ ap (λ (z : ℤ). o .next + length (toldPosition (a .kind) (o .i + 1) z)) back)
-          (e .1 ∙ ap (λ (z : ℤ). pasted (o .next) (toldPosition (a .kind) (o .i + 1) z) (o .out)) back),
+          (e .0 ∙ ap (λ (z : ℤ). o .next + length (positionOutput (a .kind) (o .i + 1) z)) back)
+          (e .1 ∙ ap (λ (z : ℤ). pasted (o .next) (positionOutput (a .kind) (o .i + 1) z) (o .out)) back),
     )
 
 same-length : tie.Need-same-length Inv-loop μ-loop
@@ -74,7 +74,7 @@ returns c =
     let s = c .before .before .before in
     let w = c .before .loop .inv in
     let e : c .before .loop .i ≡ length (s .args .positions .now) = le-antisymm (w .0) (c .loop-test .left) in
-    let v : Written (s .args .at) (s .args .out .now) (toldTable (s .args .kind) (s .args .positions .now) (length (s .args .positions .now))) (c .before .loop .next) (c .before .loop .out) = rw e at (w .1) in
+    let v : Written (s .args .at) (s .args .out .now) (tableOutput (s .args .kind) (s .args .positions .now) (length (s .args .positions .now))) (c .before .loop .next) (c .before .loop .out) = rw e at (w .1) in
     (v .place, v .bytes)
 
 pub list-kind-spec : {M : Type 1} → statement M

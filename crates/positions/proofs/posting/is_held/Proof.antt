@@ -1,7 +1,7 @@
 -- `is_held` tests the position that `position_of` reads.
 -- Assumes nothing.
 use Rattle.positions.specs.Answers.{capacity}
-use Rattle.positions.specs.Positions.{within}
+use Rattle.positions.specs.Positions.{inLimit}
 use mir.Syntax.{w64}
 use mir.Facts.{toZ-ofZ}
 use mathlib.Core.Path.{_∙_, ap}
@@ -16,7 +16,7 @@ in-capacity-requires : tie.Need-in-capacity-requires
 in-capacity-requires c κs = search needs
 
 returns : tie.Need-returns
-returns c = c .in-capacity .ensures ∙ ap (within capacity) (toZ-ofZ {w = w64} (record { sfits = c .before .position-of .ok }) ∙ c .before .position-of .ensures)
+returns c = c .in-capacity .ensures ∙ ap (inLimit capacity) (toZ-ofZ {w = w64} (record { sfits = c .before .position-of .ok }) ∙ c .before .position-of .ensures)
 
 pub is-held-spec : {M : Type 1} → statement M
 is-held-spec = tie.close (tie.spec position-of-requires in-capacity-requires returns)

@@ -1,6 +1,6 @@
 -- `position_of` reads the cell of an entry; a number without one has the position 0.
 -- Assumes nothing.
-use Rattle.positions.proofs.Laws.Positions.{isEntry-entry, position-index, position-none}
+use Rattle.positions.proofs.Laws.Positions.{hasEntry-entry, position-index, position-none}
 use mir.Val.{toZ, ofZ}
 use mir.Syntax.{w64}
 use lib.ListN.{length, getD}
@@ -18,25 +18,25 @@ is-entry-requires c κs = search needs
 sub-result : tie.Need-sub-result
 sub-result c =
     let a = c .before .before .args in
-    isEntry-entry (a .positions .now) (a .number) (sym (c .before .is-entry .ensures) ∙ c .if1 .taken) .low
+    hasEntry-entry (a .positions .now) (a .number) (sym (c .before .is-entry .ensures) ∙ c .if1 .taken) .low
 
 mul-result : tie.Need-mul-result
 mul-result c =
     let a = c .before .before .args in
-    let e = isEntry-entry (a .positions .now) (a .number) (sym (c .before .is-entry .ensures) ∙ c .if1 .taken) in
+    let e = hasEntry-entry (a .positions .now) (a .number) (sym (c .before .is-entry .ensures) ∙ c .if1 .taken) in
     let h : a .number - 1 < length (a .positions .now) = omega (arith, e .low, e .high) in
     search needs
 
 shared-slice-copy-out-result : tie.Need-shared-slice-copy-out-result
 shared-slice-copy-out-result c =
     let a = c .before .before .args in
-    let e = isEntry-entry (a .positions .now) (a .number) (sym (c .before .is-entry .ensures) ∙ c .if1 .taken) in
+    let e = hasEntry-entry (a .positions .now) (a .number) (sym (c .before .is-entry .ensures) ∙ c .if1 .taken) in
     omega (arith, e .low, e .high)
 
 returns : tie.Need-returns
 returns c =
     let a = c .before .before .before .args in
-    let e = isEntry-entry (a .positions .now) (a .number) (sym (c .before .before .is-entry .ensures) ∙ c .before .if1 .taken) in
+    let e = hasEntry-entry (a .positions .now) (a .number) (sym (c .before .before .is-entry .ensures) ∙ c .before .if1 .taken) in
     let z = getD (a .positions .now) (a .number - 1) (pos 0) in
     let back : toZ w64 (ofZ w64 z) ≡ z = search needs in
     back ∙ sym (position-index (a .positions .now) (a .number) (e .low))

@@ -1,8 +1,8 @@
 -- `post` looks at the entry, then at the sizes, and adds to one cell. What each way answers and leaves is a law of `postAnswer`.
 -- Assumes nothing.
 use Rattle.positions.proofs.Laws.Answers.{post-no-entry, post-too-large, post-made, post-stores, post-stored}
-use Rattle.positions.proofs.Laws.Positions.{isEntry-entry}
-use Rattle.positions.specs.Positions.{isEntry, within}
+use Rattle.positions.proofs.Laws.Positions.{hasEntry-entry}
+use Rattle.positions.specs.Positions.{hasEntry, inLimit}
 use Rattle.positions.specs.Answers.{capacity, postSizes}
 use Rattle.common.proofs.Tests.{not-true, not-false}
 use mir.Facts.{toZ-ofZ}
@@ -14,7 +14,7 @@ use Rattle.positions.proofs.posting.post.Tie as tie
 
 -- what the two tests look at, in terms of the arguments
 abbrev Found : tie.Start → Bool → Type 0
-Found s b = isEntry (s .args .positions .now) (s .args .number) ≡ b
+Found s b = hasEntry (s .args .positions .now) (s .args .number) ≡ b
 
 abbrev Small : tie.Start → Bool → Type 0
 Small s b = postSizes (s .args .positions .now) (s .args .number) (s .args .amount) ≡ b
@@ -28,7 +28,7 @@ start c = c .before .before .before .before .before .before
 
 small : (c : tie.After-in-capacity) (b : Bool) → c .before .is-held .result && c .in-capacity .result ≡ b → Small (start c) b
 small c b e =
-    let amount = c .in-capacity .ensures ∙ ap (within capacity) (toZ-ofZ (start c .fits .amount)) in
+    let amount = c .in-capacity .ensures ∙ ap (inLimit capacity) (toZ-ofZ (start c .fits .amount)) in
     rw (c .before .is-held .ensures, amount) at e
 
 is-entry-requires : tie.Need-is-entry-requires
@@ -61,7 +61,7 @@ returns-2 c =
 sub-add : tie.Need-sub-add
 sub-add c =
     let a = c .before .before .before .before .before .before .before .before .args in
-    isEntry-entry (a .positions .now) (a .number) (found (c .before .before .before .before .before)) .low
+    hasEntry-entry (a .positions .now) (a .number) (found (c .before .before .before .before .before)) .low
 
 add-requires : tie.Need-add-requires
 add-requires c κs =

@@ -5,7 +5,7 @@ use Rattle.positions.proofs.Laws.Answers.{transfer-from, transfer-to, t
 use Rattle.positions.proofs.Laws.Integers.{minus-fits, minus-back}
 use native.Mathlib.Omega.{arith}
 use lib.IntN.{negℤ, natAbs}
-use Rattle.positions.specs.Positions.{isEntry, posted, within}
+use Rattle.positions.specs.Positions.{hasEntry, posted, inLimit}
 use Rattle.positions.specs.Answers.{capacity, transferSizes}
 use Rattle.common.proofs.Tests.{not-true, not-false}
 use Prim.Native.Nat.{_<_, _^_}
@@ -18,7 +18,7 @@ use Rattle.positions.proofs.posting.transfer.Tie as tie
 
 -- what the two tests look at, in terms of the arguments
 abbrev Found : tie.Start → Bool → Type 0
-Found s b = isEntry (s .args .positions .now) (s .args .from) && isEntry (s .args .positions .now) (s .args .to) ≡ b
+Found s b = hasEntry (s .args .positions .now) (s .args .from) && hasEntry (s .args .positions .now) (s .args .to) ≡ b
 
 abbrev Small : tie.Start → Bool → Type 0
 Small s b = transferSizes (s .args .positions .now) (s .args .from) (s .args .to) (s .args .amount) ≡ b
@@ -41,7 +41,7 @@ small :
     → c .before .before .before .is-held .result && c .before .is-held2 .result && c .in-capacity .result ≡ b
     → Small (later-start c) b
 small c b e =
-    let amount = c .in-capacity .ensures ∙ ap (within capacity) (toZ-ofZ (later-start c .fits .amount)) in
+    let amount = c .in-capacity .ensures ∙ ap (inLimit capacity) (toZ-ofZ (later-start c .fits .amount)) in
     rw (c .before .before .before .is-held .ensures, c .before .is-held2 .ensures, amount) at e
 
 -- what both tests leave

@@ -17,8 +17,8 @@ rows-of-requires c κs = search needs
 is-used-requires : tie.Need-is-used-requires
 is-used-requires c κs = search needs
 
-row-in-requires : tie.Need-row-in-requires
-row-in-requires c κs = search needs
+found-row-requires : tie.Need-found-row-requires
+found-row-requires c κs = search needs
 
 mandate-at-requires : tie.Need-mandate-at-requires
 mandate-at-requires c κs = search needs
@@ -76,7 +76,7 @@ returns c =
     λ cp dp bp.
     let a = c .before .before .before .before .before .before .before .before .before .before .before .before .before .before .args in
     done-refused _ _ _ _ _
-    (rw (← (c .before .before .before .before .before .before .before .is-used) .ensures, ← (c .before .before .before .before .before .before .row-in) .ensures, ← (c .before .before .before .before .mandate-at) .ensures, ← (c .before .before .before .before .before .before .before .before .before .rows-of) .ensures)
+    (rw (← (c .before .before .before .before .before .before .before .is-used) .ensures, ← (c .before .before .before .before .before .before .found-row) .ensures, ← (c .before .before .before .before .mandate-at) .ensures, ← (c .before .before .before .before .before .before .before .before .before .rows-of) .ensures)
     (verdict-refuse (collectJudged (a .header .latest) (a .date) (a .p) ((c .before .before .before .before .before .before .before .is-used) .result) (a .collection) (ltb (a .header .collections) ((c .before .before .before .before .before .before .before .before .before .rows-of) .result)) ((c .before .before .before .before .mandate-at) .result)) (keptDue (a .p .requested)) _
     (sym ((c .before .before .before .judge-collect) .ensures) ∙ (c .before .r) .given .1)))
 
@@ -91,9 +91,9 @@ returns-2 c =
     λ cp dp bp.
     let a = c .before .before .before .before .before .before .before .before .before .before .before .before .before .before .before .before .before .before .before .before .before .before .before .before .before .args in
     done-accepted _ _ _ _ _
-    (rw (← (c .before .before .before .before .before .before .before .before .before .before .before .before .before .before .before .before .before .before .is-used) .ensures, ← (c .before .before .before .before .before .before .before .before .before .before .before .before .before .before .before .before .before .row-in) .ensures, ← (c .before .before .before .before .before .before .before .before .before .before .before .before .before .before .before .mandate-at) .ensures, ← (c .before .before .before .before .before .before .before .before .before .before .before .before .before .before .before .before .before .before .before .before .rows-of) .ensures) ((verdict-go (collectJudged (a .header .latest) (a .date) (a .p) ((c .before .before .before .before .before .before .before .before .before .before .before .before .before .before .before .before .before .before .is-used) .result) (a .collection) (ltb (a .header .collections) ((c .before .before .before .before .before .before .before .before .before .before .before .before .before .before .before .before .before .before .before .before .rows-of) .result)) ((c .before .before .before .before .before .before .before .before .before .before .before .before .before .before .before .mandate-at) .result)) (keptDue (a .p .requested)) _
+    (rw (← (c .before .before .before .before .before .before .before .before .before .before .before .before .before .before .before .before .before .before .is-used) .ensures, ← (c .before .before .before .before .before .before .before .before .before .before .before .before .before .before .before .before .before .found-row) .ensures, ← (c .before .before .before .before .before .before .before .before .before .before .before .before .before .before .before .mandate-at) .ensures, ← (c .before .before .before .before .before .before .before .before .before .before .before .before .before .before .before .before .before .before .before .before .rows-of) .ensures) ((verdict-go (collectJudged (a .header .latest) (a .date) (a .p) ((c .before .before .before .before .before .before .before .before .before .before .before .before .before .before .before .before .before .before .is-used) .result) (a .collection) (ltb (a .header .collections) ((c .before .before .before .before .before .before .before .before .before .before .before .before .before .before .before .before .before .before .before .before .rows-of) .result)) ((c .before .before .before .before .before .before .before .before .before .before .before .before .before .before .before .mandate-at) .result)) (keptDue (a .p .requested)) _
     (sym ((c .before .before .before .before .before .before .before .before .before .before .before .before .before .before .judge-collect) .ensures) ∙ (c .before .before .before .before .before .before .before .before .before .before .before .before .due) .given .1)) .0))
-    (rw (c .dated-header .ensures, (c .before .before .before .before .before .before .before .before .put-mandate) .ensures, (c .before .before .before .before .before .before .before .before .before .presented-on) .ensures, (c .before .before .before .put-collection) .ensures, (c .before .before .before .before .new-collection) .ensures, (c .before .before .before .before .before .before .before .before .before .before .before .before .before .before .before .mandate-at) .ensures, (c .before .before .before .before .before .before .before .before .before .before .before .before .before .before .before .before .before .row-in) .ensures))
+    (rw (c .dated-header .ensures, (c .before .before .before .before .before .before .before .before .put-mandate) .ensures, (c .before .before .before .before .before .before .before .before .before .presented-on) .ensures, (c .before .before .before .put-collection) .ensures, (c .before .before .before .before .new-collection) .ensures, (c .before .before .before .before .before .before .before .before .before .before .before .before .before .before .before .mandate-at) .ensures, (c .before .before .before .before .before .before .before .before .before .before .before .before .before .before .before .before .before .found-row) .ensures))
 
 pub collect-spec : {M : Type 1} → statement M
 collect-spec =
@@ -101,7 +101,7 @@ collect-spec =
     (tie.spec
     rows-of-requires
     is-used-requires
-    row-in-requires
+    found-row-requires
     mandate-at-requires
     judge-collect-requires
     enum-known-r

@@ -7,8 +7,8 @@ use Rattle.records.proofs.mandates.change_mandate.Tie as tie
 is-used-requires : tie.Need-is-used-requires
 is-used-requires c κs = search needs
 
-row-in-requires : tie.Need-row-in-requires
-row-in-requires c κs = search needs
+found-row-requires : tie.Need-found-row-requires
+found-row-requires c κs = search needs
 
 mandate-at-requires : tie.Need-mandate-at-requires
 mandate-at-requires c κs = search needs
@@ -35,20 +35,20 @@ same-length : tie.Need-same-length
 same-length c = search needs
 
 returns : tie.Need-returns
-returns c = λ k cp dp bp. done-refused _ _ _ _ _ (rw (← (c .before .before .before .before .before .before .before .is-used) .ensures, ← (c .before .before .before .before .before .before .row-in) .ensures, ← (c .before .before .before .before .mandate-at) .ensures) (sym ((c .before .before .before .judge-change) .ensures) ∙ (c .before .r) .given .1))
+returns c = λ k cp dp bp. done-refused _ _ _ _ _ (rw (← (c .before .before .before .before .before .before .before .is-used) .ensures, ← (c .before .before .before .before .before .before .found-row) .ensures, ← (c .before .before .before .before .mandate-at) .ensures) (sym ((c .before .before .before .judge-change) .ensures) ∙ (c .before .r) .given .1))
 
 same-length-2 : tie.Need-same-length-2
 same-length-2 c = search needs
 
 returns-2 : tie.Need-returns-2
-returns-2 c = λ k cp dp bp. done-accepted _ _ _ _ _ (rw (← (c .before .before .before .before .before .before .before .before .before .before .before .before .is-used) .ensures, ← (c .before .before .before .before .before .before .before .before .before .before .before .row-in) .ensures, ← (c .before .before .before .before .before .before .before .before .before .mandate-at) .ensures) (sym ((c .before .before .before .before .before .before .before .before .judge-change) .ensures) ∙ (c .before .before .before .before .before .before .enum-told) .given .1)) (rw (c .dated-header .ensures, (c .before .before .before .put-mandate) .ensures, (c .before .before .before .before .changed-mandate) .ensures, (c .before .before .before .before .before .before .before .before .before .mandate-at) .ensures, (c .before .before .before .before .before .before .before .before .before .before .before .row-in) .ensures))
+returns-2 c = λ k cp dp bp. done-accepted _ _ _ _ _ (rw (← (c .before .before .before .before .before .before .before .before .before .before .before .before .is-used) .ensures, ← (c .before .before .before .before .before .before .before .before .before .before .before .found-row) .ensures, ← (c .before .before .before .before .before .before .before .before .before .mandate-at) .ensures) (sym ((c .before .before .before .before .before .before .before .before .judge-change) .ensures) ∙ (c .before .before .before .before .before .before .enum-told) .given .1)) (rw (c .dated-header .ensures, (c .before .before .before .put-mandate) .ensures, (c .before .before .before .before .changed-mandate) .ensures, (c .before .before .before .before .before .before .before .before .before .mandate-at) .ensures, (c .before .before .before .before .before .before .before .before .before .before .before .found-row) .ensures))
 
 pub change-mandate-spec : {M : Type 1} → statement M
 change-mandate-spec =
     tie.close
     (tie.spec
     is-used-requires
-    row-in-requires
+    found-row-requires
     mandate-at-requires
     judge-change-requires
     enum-known-r

@@ -4,7 +4,7 @@ use mathlib.Core.Bool.{Bool, true, false, _&&_}
 use lib.Dec.{leb}
 use Rattle.report.specs.Layout.{widestKind, lastNumber, positionFits, positionLine}
 use Rattle.digits.specs.Field.{pasted}
-use Rattle.positions.specs.Positions.{positionLimit, within}
+use Rattle.positions.specs.Positions.{positionLimit, inLimit}
 use lib.IntN.{ℤ}
 use mir.Syntax.{w64}
 use mir.Val.{toZ, ofZ}
@@ -30,7 +30,7 @@ fits c b e =
     sym
     (positionFits-is (a .at) (a .kind) (a .number) (a .cents) (a .out .now) _ _
     (c .before .has-room .ensures)
-    (c .in-limit .ensures ∙ ap (within positionLimit) (back (start c))))
+    (c .in-limit .ensures ∙ ap (inLimit positionLimit) (back (start c))))
     ∙ e
 
 has-room-requires : tie.Need-has-room-requires
@@ -43,7 +43,7 @@ put-position-requires : tie.Need-put-position-requires
 put-position-requires c κs =
     let s = start (c .before .before) in
     let p = positionFits-facts (s .args .at) (s .args .kind) (s .args .number) (s .args .cents) (s .args .out .now) (fits (c .before .before) true (c .before .if1 .taken)) in
-    (p .0, ap (within positionLimit) (back s) ∙ p .1)
+    (p .0, ap (inLimit positionLimit) (back s) ∙ p .1)
 
 same-length : tie.Need-same-length
 same-length c = search needs

@@ -1,4 +1,4 @@
-use Rattle.tables.specs.Records.{collectionOf}
+use Rattle.tables.specs.Records.{collectionFrom}
 use Rattle.tables.specs.Rows.{collectionAt}
 use borrow.Author.Needs.{needs}
 use Rattle.tables.proofs.rows.collection_at.Statement.{statement}
@@ -35,7 +35,7 @@ cell-requires-9 : tie.Need-cell-requires-9
 cell-requires-9 c κs = search needs
 
 returns : tie.Need-returns
-unfolding collectionAt collectionOf
+unfolding collectionAt collectionFrom
 returns c =
     rw (
       c .before .before .before .before .before .before .before .state-of .ensures,

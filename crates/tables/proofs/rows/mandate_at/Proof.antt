@@ -1,4 +1,4 @@
-use Rattle.tables.specs.Records.{mandateOf}
+use Rattle.tables.specs.Records.{mandateFrom}
 use Rattle.tables.specs.Rows.{mandateAt}
 use borrow.Author.Needs.{needs}
 use Rattle.tables.proofs.rows.mandate_at.Statement.{statement}
@@ -35,7 +35,7 @@ cell-requires-9 : tie.Need-cell-requires-9
 cell-requires-9 c κs = search needs
 
 returns : tie.Need-returns
-unfolding mandateAt mandateOf
+unfolding mandateAt mandateFrom
 returns c =
     rw (
       c .before .before .before .before .before .before .before .before .standing-of .ensures,

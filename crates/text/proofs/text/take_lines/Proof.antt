@@ -7,14 +7,14 @@ use lib.ListN.{length}
 use Rattle.tables.specs.Ledger.{ledger}
 use Rattle.run.specs.Run.{runAt}
 use Rattle.report.proofs.Laws.Cut.{endFrom-at, endFrom-none}
-use Rattle.text.proofs.Laws.Text.{Telling, telling-start, telling-line, telling-end, line-room}
+use Rattle.text.proofs.Laws.Text.{AnsweredTo, answered-start, answered-line, answered-end, line-room}
 use borrow.Author.Needs.{needs}
 use Rattle.text.proofs.text.take_lines.Statement.{statement}
 use Rattle.text.proofs.text.take_lines.Tie as tie
 
 abbrev Inv-loop : tie.InvT-loop
-Inv-loop known lines text out₀ mandate-index collection-index mandates₀ collections₀ creditors₀ creditor-positions₀ debtor-positions₀ bank-positions₀ p₀ at₀ out mandates collections creditors creditor-positions debtor-positions bank-positions p at =
-    Telling known mandate-index collection-index
+Inv-loop prepared lines text out₀ mandate-index collection-index mandates₀ collections₀ creditors₀ creditor-positions₀ debtor-positions₀ bank-positions₀ p₀ at₀ out mandates collections creditors creditor-positions debtor-positions bank-positions p at =
+    AnsweredTo prepared mandate-index collection-index
     (runAt (ledger (p₀ .header) mandates₀ collections₀ creditors₀ creditor-positions₀ debtor-positions₀ bank-positions₀) lines [])
     text
     out₀
@@ -31,11 +31,11 @@ Inv-loop known lines text out₀ mandate-index collection-index mandates₀ coll
     × length bank-positions ≡ length bank-positions₀
 
 abbrev μ-loop : tie.MeasureT-loop
-μ-loop known lines text out₀ mandate-index collection-index mandates₀ collections₀ creditors₀ creditor-positions₀ debtor-positions₀ bank-positions₀ p₀ at₀ out mandates collections creditors creditor-positions debtor-positions bank-positions p at =
+μ-loop prepared lines text out₀ mandate-index collection-index mandates₀ collections₀ creditors₀ creditor-positions₀ debtor-positions₀ bank-positions₀ p₀ at₀ out mandates collections creditors creditor-positions debtor-positions bank-positions p at =
     length text - at
 
 loop-holds : tie.Need-loop-holds Inv-loop μ-loop
-loop-holds c = (telling-start _ _ _ _ _ _ _ (c .before .before .before .before .before .pre .tested) refl, refl, refl, refl, refl, refl, refl, refl)
+loop-holds c = (answered-start _ _ _ _ _ _ _ (c .before .before .before .before .before .pre .tested) refl, refl, refl, refl, refl, refl, refl, refl)
 
 line-end-requires : tie.Need-line-end-requires Inv-loop μ-loop
 line-end-requires c κs = search needs
@@ -68,7 +68,7 @@ same-length-7 : tie.Need-same-length-7 Inv-loop μ-loop
 same-length-7 c = c .before .before .before .before .before .loop .inv .7
 
 returns : tie.Need-returns Inv-loop μ-loop
-returns c = telling-end _ _ _ _ _ _ _ _ _ _ _ (c .before .before .before .before .before .loop .inv .0) (endFrom-none _ _ (sym (c .before .before .before .line-end .ensures) ∙ c .before .enum-told .given .1))
+returns c = answered-end _ _ _ _ _ _ _ _ _ _ _ (c .before .before .before .before .before .loop .inv .0) (endFrom-none _ _ (sym (c .before .before .before .line-end .ensures) ∙ c .before .enum-told .given .1))
 
 add-next : tie.Need-add-next Inv-loop μ-loop
 add-next c = omega (arith, (endFrom-at _ _ _ (sym (c .before .before .before .line-end .ensures) ∙ c .before .k .given .1)) .inside, c .before .before .before .before .before .before .before .before .before .before .before .good)
@@ -90,7 +90,7 @@ loop-less c = omega (arith, c .before .before .before .before .before .before .b
 
 loop-again : tie.Need-loop-again Inv-loop μ-loop
 loop-again c = (
-  telling-line _ _ _ _ _ _ _ _ (endFrom-at _ _ _ (sym (c .before .before .before .before .before .before .before .before .before .before .before .before .before .before .before .before .before .before .before .before .before .before .before .line-end .ensures) ∙ c .before .before .before .before .before .before .before .before .before .before .before .before .before .before .before .before .before .before .before .before .before .k .given .1)) _ _ _ _ _ _ _ (c .before .before .before .before .before .before .before .before .before .before .before .before .before .before .before .before .before .before .before .before .before .before .before .before .before .loop .inv .0) refl (c .before .before .before .before .before .before .before .before .before .before .before .end-line .ensures),
+  answered-line _ _ _ _ _ _ _ _ (endFrom-at _ _ _ (sym (c .before .before .before .before .before .before .before .before .before .before .before .before .before .before .before .before .before .before .before .before .before .before .before .line-end .ensures) ∙ c .before .before .before .before .before .before .before .before .before .before .before .before .before .before .before .before .before .before .before .before .before .k .given .1)) _ _ _ _ _ _ _ (c .before .before .before .before .before .before .before .before .before .before .before .before .before .before .before .before .before .before .before .before .before .before .before .before .before .loop .inv .0) refl (c .before .before .before .before .before .before .before .before .before .before .before .end-line .ensures),
   c .before .before .before .before .before .before .before .before .before .before .before .end-line .kept .1 .1 .1 .0 ∙ c .before .before .before .before .before .before .before .before .before .before .before .before .before .before .before .before .before .before .before .before .before .before .before .before .before .loop .inv .1,
   c .before .before .before .before .before .before .before .before .before .before .before .end-line .kept .1 .1 .1 .1 .1 .1 .0 ∙ c .before .before .before .before .before .before .before .before .before .before .before .before .before .before .before .before .before .before .before .before .before .before .before .before .before .loop .inv .2,
   c .before .before .before .before .before .before .before .before .before .before .before .end-line .kept .1 .1 .1 .1 .1 .1 .1 .0 ∙ c .before .before .before .before .before .before .before .before .before .before .before .before .before .before .before .before .before .before .before .before .before .before .before .before .before .loop .inv .3,
@@ -122,7 +122,7 @@ same-length-14 : tie.Need-same-length-14 Inv-loop μ-loop
 same-length-14 c = c .before .before .loop .inv .7
 
 returns-2 : tie.Need-returns-2 Inv-loop μ-loop
-returns-2 c = telling-end _ _ _ _ _ _ _ _ _ _ _ (c .before .before .loop .inv .0) (λ j a b. absurd (omega (arith, c .before .loop-test .left, a, b)))
+returns-2 c = answered-end _ _ _ _ _ _ _ _ _ _ _ (c .before .before .loop .inv .0) (λ j a b. absurd (omega (arith, c .before .loop-test .left, a, b)))
 
 pub take-lines-spec : {M : Type 1} → statement M
 take-lines-spec =

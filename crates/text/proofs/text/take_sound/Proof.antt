@@ -71,8 +71,8 @@ returns-2 c =
     let l = ledger (a .header) (a .mandates .now) (a .collections .now) (a .creditors .now) (a .creditor-positions .now) (a .debtor-positions .now) (a .bank-positions .now) in
     acted-taken l (a .e) _ _ _ _ (sym ((c .before .before .before .before .before .before .before .before .before .before .before .before .before .before .before .before .before .before .before .before .before .before .before .before .before .before .before .may-act) .ensures) ∙ not-false (c .before .before .before .before .before .before .before .before .before .before .before .before .before .before .before .before .before .before .before .before .before .before .before .before .before .before .if1 .left)) (s .pre .is-within)
     (found-for (a .e) l _ _ _ _
-    ((c .before .before .before .before .before .before .before .before .before .before .before .before .before .before .before .before .before .before .before .before .before .before .before .start) .ensures _ (λ k. s .pre .tested (and-halves (a .known) k .0) .mandates))
-    ((c .before .before .before .before .before .before .before .before .before .before .before .before .before .before .before .before .before .before .before .before .start2) .ensures _ (λ k. s .pre .tested (and-halves (a .known) k .0) .collections))
+    ((c .before .before .before .before .before .before .before .before .before .before .before .before .before .before .before .before .before .before .before .before .before .before .before .start) .ensures _ (λ k. s .pre .tested (and-halves (a .prepared) k .0) .mandates))
+    ((c .before .before .before .before .before .before .before .before .before .before .before .before .before .before .before .before .before .before .before .before .start2) .ensures _ (λ k. s .pre .tested (and-halves (a .prepared) k .0) .collections))
     ((c .before .before .before .before .before .before .before .before .before .before .before .before .before .before .before .before .before .before .find-mandate) .ensures)
     ((c .before .before .before .before .before .before .before .before .before .before .before .before .before .before .before .before .find-collection) .ensures))
     ((c .before .before .before .before .before .before .before .before .before .act) .ensures)

@@ -1,0 +1,27 @@
+-- What a read and a write give. Nothing says which bytes come in or go out. Assumes nothing.
+use mathlib.Core.Path.{_≡_}
+use mathlib.Core.Bool.{Bool, true}
+use mathlib.Core.List.{List}
+use Prim.Native.Nat.{ℕ, _+_, _≤_, _<_}
+use lib.ListN.{length, take}
+use Rattle.streams.specs.declared.Got.{Got}
+use Rattle.streams.specs.declared.Got.the-variants.{Bytes, End, Failed}
+
+-- bytes that were read are some, and the buffer has them behind the first `from`; without room behind those there is no end to be seen
+pub record Some (from n long : ℕ) : Type 0 where
+  pub some : 0 < n
+  pub inside : from + n ≤ long
+
+abbrev pub Inside : ℕ → ℕ → Got → Type 0
+Inside from long (Bytes n) = Some from n long
+Inside from long End = from < long
+Inside from long Failed = Prim.Unit
+
+-- the first `from` bytes stay as they are
+pub record ReadBehind (from : ℕ) (buffer : List ℕ) (r : Got) (buffer' : List ℕ) : Type 0 where
+  pub front : take from buffer' ≡ take from buffer
+  pub inside : Inside from (length buffer') r
+
+-- no bytes are written whole
+abbrev pub WholeWhenEmpty : ℕ → Bool → Type 0
+WholeWhenEmpty bytes r = bytes ≡ 0 → r ≡ true
