@@ -51,12 +51,13 @@ enum {
  * KALANHAV_PARTIAL_BYTES, one more than a sound line: a text of KALANHAV_TEXT_LEAST bytes or more always has room for a further byte. */
 #define KALANHAV_LAST_LINE 999999
 #define KALANHAV_LINE_BYTES 75
-#define KALANHAV_PARTIAL_BYTES 76
-#define KALANHAV_TEXT_LEAST 77
+#define KALANHAV_PARTIAL_BYTES (KALANHAV_LINE_BYTES + 1)
+#define KALANHAV_TEXT_LEAST (KALANHAV_PARTIAL_BYTES + 1)
 #define KALANHAV_ANSWER_BYTES 10
+#define KALANHAV_POSITION_BYTES 27
 /* Room that a buffer must have for a text of so many bytes (each may end a line), and for a listing, which may be of every position. */
 #define KALANHAV_ANSWER_ROOM(bytes) ((bytes) * (size_t)KALANHAV_ANSWER_BYTES)
-#define KALANHAV_LISTING_ROOM ((size_t)(KALANHAV_CREDITORS + KALANHAV_DEBTORS + KALANHAV_BANKS + 1) * 27)
+#define KALANHAV_LISTING_ROOM ((size_t)(KALANHAV_CREDITORS + KALANHAV_DEBTORS + KALANHAV_BANKS + 1) * KALANHAV_POSITION_BYTES)
 
 /* Opens the ledger: no rows, no creditor, all positions, cells of state and of cents 0. The rows' cells stay as they are.
  * 2: state or cents of another length, row counts outside their limits, or a table of another length. */

@@ -27,12 +27,14 @@ pub const PAST: usize = 6;
 pub const COMPENSATION: usize = 0;
 pub const FIGURE: usize = 1;
 
-/// The most lines that are answered; the least text that always has room for a further byte; the bytes of an answer; room for a
-/// listing.
+/// The most lines that are answered; the bytes of an event's line, and the least text that always has room for a further byte; the bytes
+/// of an answer and of a position; room for a listing.
 pub const LAST_LINE: u64 = 999_999;
-pub const TEXT_LEAST: usize = 77;
+pub const LINE_BYTES: usize = 75;
+pub const TEXT_LEAST: usize = LINE_BYTES + 2;
 pub const ANSWER_BYTES: usize = 10;
-pub const LISTING_ROOM: usize = (CREDITORS + DEBTORS + BANKS + 1) * 27;
+pub const POSITION_BYTES: usize = 27;
+pub const LISTING_ROOM: usize = (CREDITORS + DEBTORS + BANKS + 1) * POSITION_BYTES;
 
 /// All that is lent to a call.
 #[derive(Clone, PartialEq)]
