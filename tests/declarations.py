@@ -13,7 +13,7 @@ CONSTANTS = {
     "common/src/lib.rt": {"CREDITORS": "CREDITORS", "DEBTORS": "DEBTORS", "BANKS": "BANKS", "MANDATE_ROWS": "MANDATE_ROWS",
                           "COLLECTION_ROWS": "COLLECTION_ROWS"},
     "tables/src/rows.rt": {"ROW_CELLS": "STRIDE"},
-    "cells/src/reading.rt": {"STATE_CELLS": "STATE", "CENTS_CELLS": "CENTS", "EVENT_CELLS": "EVENT"},
+    "cells/src/reading.rt": {"STATE_CELLS": "STATE_CELLS", "CENTS_CELLS": "CENTS_CELLS", "EVENT_CELLS": "EVENT_CELLS"},
     "lines/src/line.rt": {"LINE_BYTES": "LINE"},
     "report/src/layout.rt": {"ANSWER_BYTES": "ANSWER", "POSITION_BYTES": "POSITION", "LAST_LINE": "LAST_NUMBER"},
 }

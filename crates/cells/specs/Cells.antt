@@ -18,14 +18,14 @@ use Rattle.cells.specs.declared.Counts.{Counts}
 
 -- ---- how many cells there are
 
-abbrev pub stateFits : List ℕ → Bool
-stateFits state = eqb (length state) 7
+abbrev pub stateCellsFit : List ℕ → Bool
+stateCellsFit state = eqb (length state) 7
 
 abbrev pub cellsFit : List ℕ → List ℤ → Bool
-cellsFit state cents = stateFits state && eqb (length cents) 2
+cellsFit state cents = stateCellsFit state && eqb (length cents) 2
 
-abbrev pub eventFits : List ℕ → Bool
-eventFits event = eqb (length event) 9
+abbrev pub eventCellsFit : List ℕ → Bool
+eventCellsFit event = eqb (length event) 9
 
 -- ---- what stands in them
 
@@ -78,8 +78,8 @@ figureCents (Refused r) cents = cents
 -- ---- all cells
 
 -- those of a state by a header and the counts of a text
-abbrev pub stateOf : Header → Counts → List ℕ
-stateOf h c = h .latest ∷ h .mandates ∷ h .collections ∷ c .lines ∷ c .partial ∷ c .written ∷ c .past ∷ []
+abbrev pub stateCells : Header → Counts → List ℕ
+stateCells h c = h .latest ∷ h .mandates ∷ h .collections ∷ c .lines ∷ c .partial ∷ c .written ∷ c .past ∷ []
 
 -- as an opening leaves them
 abbrev pub freshHeader : Header

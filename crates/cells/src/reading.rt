@@ -2,35 +2,35 @@
 ghost use mathlib.Core.Path.{_≡_};
 ghost use lib.IntN.{pos};
 ghost use lib.ListN.{getD};
-ghost use Rattle.cells.specs.Cells.{stateFits, cellsFit, eventFits, headerIn, cellsEvent, linesIn, filledIn};
+ghost use Rattle.cells.specs.Cells.{stateCellsFit, cellsFit, eventCellsFit, headerIn, cellsEvent, linesIn, filledIn};
 use events::Event;
 use tables::Header;
 
-const STATE: usize = 7;
+const STATE_CELLS: usize = 7;
 
-const CENTS: usize = 2;
+const CENTS_CELLS: usize = 2;
 
-const EVENT: usize = 9;
+const EVENT_CELLS: usize = 9;
 
 // Whether there are as many cells of a state as there should be.
-pub fn state_fits(state: &[u64]) -> bool
-    ensures { λ r. ⌜ r ≡ stateFits (now (state .entry)) ⌝ }
+pub fn state_cells_fit(state: &[u64]) -> bool
+    ensures { λ r. ⌜ r ≡ stateCellsFit (now (state .entry)) ⌝ }
 {
-    state.len() == STATE
+    state.len() == STATE_CELLS
 }
 
 // Whether there are as many cells of a state and of cents.
 pub fn cells_fit(state: &[u64], cents: &[i64]) -> bool
     ensures { λ r. ⌜ r ≡ cellsFit (now (state .entry)) (now (cents .entry)) ⌝ }
 {
-    (state.len() == STATE) & (cents.len() == CENTS)
+    (state.len() == STATE_CELLS) & (cents.len() == CENTS_CELLS)
 }
 
 // Whether there are as many cells of an event.
-pub fn event_fits(event: &[u64]) -> bool
-    ensures { λ r. ⌜ r ≡ eventFits (now (event .entry)) ⌝ }
+pub fn event_cells_fit(event: &[u64]) -> bool
+    ensures { λ r. ⌜ r ≡ eventCellsFit (now (event .entry)) ⌝ }
 {
-    event.len() == EVENT
+    event.len() == EVENT_CELLS
 }
 
 // A cell, 0 where there is none.

@@ -17,7 +17,7 @@ use Rattle.model.specs.Step.{answerNumber, eventNumber, after, run}
 use Rattle.model.specs.Promises.{Kept}
 use Rattle.checking.specs.declared.Outcome.{Outcome}
 use Rattle.replay.specs.Replay.{eventsIn}
-use Rattle.cells.specs.Cells.{cellsFit, eventFits, cellsEvent, headerState, headerCents, freshState, freshCents, headOf}
+use Rattle.cells.specs.Cells.{cellsFit, eventCellsFit, cellsEvent, headerState, headerCents, freshState, freshCents, headOf}
 
 -- ---- for private contracts: what is written of an answer
 
@@ -71,7 +71,7 @@ pub record BookCall (fits : Bool) (number : ℕ) (left : Ledger) (state : List �
 abbrev pub EventCall : List ℕ → List ℤ → List ℕ → Ledger → ℕ → List ℕ → List ℤ → Ledger → Type 0
 EventCall state cents event l =
     BookCall
-    (cellsFit state cents && eventFits event)
+    (cellsFit state cents && eventCellsFit event)
     (eventNumber l (cellsEvent event))
     (after l (cellsEvent event))
     state

@@ -19,7 +19,7 @@ use Rattle.listing.specs.Past.{linesPast, goesPast}
 use Rattle.text.specs.declared.text.Piece.{Piece}
 use Rattle.text.specs.Text.{pieceFits, pieceRun, pieceOutput, textAfter}
 use Rattle.cells.specs.declared.Counts.{Counts}
-use Rattle.cells.specs.Cells.{stateFits, cellsFit, linesIn, filledIn, headerState, headerCents, countsState, writtenState, stateOf, headOf}
+use Rattle.cells.specs.Cells.{stateCellsFit, cellsFit, linesIn, filledIn, headerState, headerCents, countsState, writtenState, stateCells, headOf}
 
 -- ---- for private contracts: what is written of an answer; a refusal leaves the cells as they are
 
@@ -53,7 +53,7 @@ pub record Ran (fits : Bool) (s : Run) (t : List ℕ) (past : ℕ)
     (state : List ℕ) (cents : List ℤ) (l : Ledger) (text out : List ℕ)
     (r : ℕ) (state' : List ℕ) (cents' : List ℤ) (l' : Ledger) (text' out' : List ℕ) : Type 0 where
   pub answer-is : r ≡ cond fits 0 (numberOf UnfitMemory)
-  pub state-is : state' ≡ cond fits (stateOf (headOf (s .book)) (runCounts s t past)) state
+  pub state-is : state' ≡ cond fits (stateCells (headOf (s .book)) (runCounts s t past)) state
   pub cents-is : cents' ≡ cond fits (headerCents (headOf (s .book)) cents) cents
   pub book-is : l' ≡ cond fits (s .book) l
   pub text-is : text' ≡ textAfter fits s text
@@ -93,7 +93,7 @@ pub record EndDone (fits : Bool) (state out : List ℕ) (r : ℕ) (state' out' :
   pub out-is : out' ≡ cond fits (pasted 0 (endBytes (linesIn state) (filledIn state)) out) out
 
 abbrev pub EndCall : List ℕ → List ℕ → ℕ → List ℕ → List ℕ → Type 0
-EndCall state out = EndDone (stateFits state && endFits out) state out
+EndCall state out = EndDone (stateCellsFit state && endFits out) state out
 
 -- ---- the listing of the ledger l
 

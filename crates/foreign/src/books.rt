@@ -7,7 +7,7 @@ ghost use Rattle.foreign.specs.Books.{OpeningPut, OutcomePut, ReplayPut,
 use crate::UNFIT;
 use book::event::take_event;
 use cells::reading::cells_fit;
-use cells::reading::event_fits;
+use cells::reading::event_cells_fit;
 use cells::reading::event_in;
 use cells::reading::header_in;
 use cells::writing::put_fresh;
@@ -90,7 +90,7 @@ pub extern "C" fn kalanhav_take_event(
     ensures { λ r. ⌜ EventCall (now (state .entry)) (now (cents .entry)) (now (event .entry)) (ledger (headerIn (now (state .entry)) (now (cents .entry))) (now (mandates .entry)) (now (collections .entry)) (now (creditors .entry)) (now («creditor_positions» .entry)) (now («debtor_positions» .entry)) (now («bank_positions» .entry))) r
         (now (state .exit)) (now (cents .exit)) (ledger (headerIn (now (state .exit)) (now (cents .exit))) (now (mandates .exit)) (now (collections .exit)) (now (creditors .exit)) (now («creditor_positions» .exit)) (now («debtor_positions» .exit)) (now («bank_positions» .exit))) ⌝ }
 {
-    if !(cells_fit(state, cents) & event_fits(event)) {
+    if !(cells_fit(state, cents) & event_cells_fit(event)) {
         return UNFIT;
     }
     let outcome = take_event(

@@ -11,7 +11,7 @@ use cells::reading::cells_fit;
 use cells::reading::filled_in;
 use cells::reading::header_in;
 use cells::reading::lines_in;
-use cells::reading::state_fits;
+use cells::reading::state_cells_fit;
 use cells::writing::put_counts;
 use cells::writing::put_header;
 use cells::writing::put_written;
@@ -140,7 +140,7 @@ fn put_ending(ending: Ending, past: u64, state: &mut [u64]) -> u64
 pub extern "C" fn kalanhav_end_text(state: &mut [u64], out: &mut [u8]) -> u64
     ensures { λ r. ⌜ EndCall (now (state .entry)) (now (out .entry)) r (now (state .exit)) (now (out .exit)) ⌝ }
 {
-    if !state_fits(state) {
+    if !state_cells_fit(state) {
         return UNFIT;
     }
     let lines = lines_in(state);

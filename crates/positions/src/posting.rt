@@ -44,7 +44,7 @@ pub fn position_of(positions: &[i64], number: u64) -> i64
 }
 
 // Whether the position of a number is small enough to be added to.
-fn is_held(positions: &[i64], number: u64) -> bool
+fn position_in_capacity(positions: &[i64], number: u64) -> bool
     ensures { λ r. ⌜ r ≡ inLimit capacity (position (now (positions .entry)) number) ⌝ }
 {
     in_capacity(position_of(positions, number))
@@ -67,7 +67,7 @@ pub fn post(positions: &mut [i64], number: u64, amount: i64) -> PostAnswer
     if !is_entry(positions, number) {
         return PostAnswer::NoEntry;
     }
-    if !(is_held(positions, number) & in_capacity(amount)) {
+    if !(position_in_capacity(positions, number) & in_capacity(amount)) {
         return PostAnswer::TooLarge;
     }
     add(positions, (number - 1) as usize, amount);
@@ -82,7 +82,9 @@ pub fn transfer(positions: &mut [i64], from: u64, to: u64, amount: i64) -> PostA
     if !(is_entry(positions, from) & is_entry(positions, to)) {
         return PostAnswer::NoEntry;
     }
-    let sizes = is_held(positions, from) & is_held(positions, to) & in_capacity(amount);
+    let sizes = position_in_capacity(positions, from)
+        & position_in_capacity(positions, to)
+        & in_capacity(amount);
     if !sizes {
         return PostAnswer::TooLarge;
     }

@@ -13,7 +13,7 @@ use lib.Seq.{sets, sets-eq, drop-length}
 use Rattle.common.proofs.Tests.{and-halves}
 use Rattle.tables.specs.declared.Header.{Header}
 use Rattle.cells.specs.declared.Counts.{Counts}
-use Rattle.cells.specs.Cells.{stateFits, cellsFit, headerIn, headerState, headerCents, countsState, stateOf, freshHeader, freshCounts, freshState, freshCents}
+use Rattle.cells.specs.Cells.{stateCellsFit, cellsFit, headerIn, headerState, headerCents, countsState, stateCells, freshHeader, freshCounts, freshState, freshCents}
 
 -- as many stores as there are cells
 sets-whole : {A : Type 0} (vs l : List A) → length l ≡ length vs → sets l 0 vs ≡ vs
@@ -24,21 +24,21 @@ sets-whole {A} vs l e =
     ∙ ap (λ (r : List A). vs ++ r) (drop-length l)
     ∙ append-nil vs
 
-pub state-length : (state : List ℕ) → stateFits state ≡ true → length state ≡ 7
+pub state-length : (state : List ℕ) → stateCellsFit state ≡ true → length state ≡ 7
 state-length state h = eqb-true (length state) 7 h
 
-pub state-whole : (state : List ℕ) → stateFits state ≡ true → (h : Header) (c : Counts) → countsState c (headerState h state) ≡ stateOf h c
-state-whole state f h c = sets-whole (stateOf h c) state (state-length state f)
+pub state-whole : (state : List ℕ) → stateCellsFit state ≡ true → (h : Header) (c : Counts) → countsState c (headerState h state) ≡ stateCells h c
+state-whole state f h c = sets-whole (stateCells h c) state (state-length state f)
 
-pub fresh-state : (state : List ℕ) → stateFits state ≡ true → freshState state ≡ 0 ∷ 0 ∷ 0 ∷ 0 ∷ 0 ∷ 0 ∷ 0 ∷ []
+pub fresh-state : (state : List ℕ) → stateCellsFit state ≡ true → freshState state ≡ 0 ∷ 0 ∷ 0 ∷ 0 ∷ 0 ∷ 0 ∷ 0 ∷ []
 fresh-state state f = state-whole state f freshHeader freshCounts
 
 module _ (state : List ℕ) (cents : List ℤ) (f : cellsFit state cents ≡ true) where
-  pub state-fits : stateFits state ≡ true
-  state-fits = and-halves (stateFits state) f .0
+  pub state-cells-fit : stateCellsFit state ≡ true
+  state-cells-fit = and-halves (stateCellsFit state) f .0
 
   pub cents-length : length cents ≡ 2
-  cents-length = eqb-true (length cents) 2 (and-halves (stateFits state) f .1)
+  cents-length = eqb-true (length cents) 2 (and-halves (stateCellsFit state) f .1)
 
   pub fresh-cents : freshCents cents ≡ pos 0 ∷ pos 0 ∷ []
   fresh-cents = sets-whole (pos 0 ∷ pos 0 ∷ []) cents cents-length
@@ -49,9 +49,9 @@ module _ (state : List ℕ) (cents : List ℤ) (f : cellsFit state cents ≡ tru
   -- the header that was written is the one that is read
   pub header-back : (h : Header) → headerIn (headerState h state) (headerCents h cents) ≡ h
   header-back h =
-      let s = sets-eq (h .latest ∷ h .mandates ∷ h .collections ∷ []) state 0 (omega (arith, state-length state state-fits)) in
+      let s = sets-eq (h .latest ∷ h .mandates ∷ h .collections ∷ []) state 0 (omega (arith, state-length state state-cells-fit)) in
       ap (λ (x : List ℕ). headerIn x (headerCents h cents)) s
       ∙ ap (headerIn (h .latest ∷ h .mandates ∷ h .collections ∷ drop 3 state)) (cents-head (h .compensation))
 
-  pub header-of-whole : (h : Header) (c : Counts) → headerIn (stateOf h c) (headerCents h cents) ≡ h
-  header-of-whole h c = ap (headerIn (stateOf h c)) (cents-head (h .compensation))
+  pub header-of-whole : (h : Header) (c : Counts) → headerIn (stateCells h c) (headerCents h cents) ≡ h
+  header-of-whole h c = ap (headerIn (stateCells h c)) (cents-head (h .compensation))

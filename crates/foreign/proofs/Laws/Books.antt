@@ -19,8 +19,8 @@ use Rattle.checking.specs.declared.Outcome.{Outcome}
 use Rattle.book.specs.Events.{Taken}
 use Rattle.replay.specs.Replay.{eventsIn, Replayed}
 use Rattle.replay.proofs.Laws.Replay.{was-opened, was-refused}
-use Rattle.cells.specs.Cells.{cellsFit, eventFits, cellsEvent, headerIn, headerState, headerCents, freshHeader, headOf}
-use Rattle.cells.proofs.Laws.Cells.{state-fits, fresh-state, fresh-cents, header-back}
+use Rattle.cells.specs.Cells.{cellsFit, eventCellsFit, cellsEvent, headerIn, headerState, headerCents, freshHeader, headOf}
+use Rattle.cells.proofs.Laws.Cells.{state-cells-fit, fresh-state, fresh-cents, header-back}
 use Rattle.foreign.specs.Books.{OpeningPut, OutcomePut, ReplayPut, OpenCall, BookCall, EventCall, ReplayCall}
 
 -- the tables of a ledger under another header
@@ -64,7 +64,7 @@ module _ (fits : Bool) (number : ℕ) (left : Ledger) (state : List ℕ) (cents 
 
 pub event-done :
     (state : List ℕ) (cents : List ℤ) (event : List ℕ) (l : Ledger)
-    → (cellsFit state cents && eventFits event) ≡ true
+    → (cellsFit state cents && eventCellsFit event) ≡ true
     → (h : Header) → h ≡ headerIn state cents
     → (e : Event) → e ≡ cellsEvent event
     → headerIn state cents ≡ headOf l
@@ -77,7 +77,7 @@ event-done state cents event l f h hi e ei held o l' left taken r state' cents' 
     let t = subst (λ (x : Header). Taken (under x l) e o l') (hi ∙ held) taken in
     let u = subst (λ (x : Event). Taken l x o l') ei t in
     book-done
-    (cellsFit state cents && eventFits event)
+    (cellsFit state cents && eventCellsFit event)
     (eventNumber l (cellsEvent event))
     (after l (cellsEvent event))
     state
@@ -110,7 +110,7 @@ module _ (state : List ℕ) (cents : List ℤ) (l : Ledger) where
     unfolding fresh
     by-answer Opened e put held =
         let w = was-opened l l' Opened e refl in
-        let s = put .state-is ∙ fresh-state state (state-fits state cents f) in
+        let s = put .state-is ∙ fresh-state state (state-cells-fit state cents f) in
         let z = put .cents-is ∙ fresh-cents state cents f in
         record {
           answer-is = rw (f, w .sizes) (put .answer-is);

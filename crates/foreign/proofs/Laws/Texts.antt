@@ -20,8 +20,8 @@ use Rattle.listing.specs.Past.{linesPast}
 use Rattle.text.specs.declared.text.Piece.{Piece}
 use Rattle.text.specs.Text.{pieceFits, pieceRun, pieceOutput, textAfter, Advanced, PieceTaken}
 use Rattle.cells.specs.declared.Counts.{Counts}
-use Rattle.cells.specs.Cells.{stateFits, cellsFit, headerIn, linesIn, filledIn, headerState, headerCents, countsState, stateOf, headOf}
-use Rattle.cells.proofs.Laws.Cells.{state-fits, state-whole, header-of-whole}
+use Rattle.cells.specs.Cells.{stateCellsFit, cellsFit, headerIn, linesIn, filledIn, headerState, headerCents, countsState, stateCells, headOf}
+use Rattle.cells.proofs.Laws.Cells.{state-cells-fit, state-whole, header-of-whole}
 use Rattle.foreign.specs.Texts.{pieceCounts, PiecePut, EndingPut, ListingPut, runCounts, Ran, TextCall, endPast, EndDone, EndCall, ListingDone, ListCall}
 use Rattle.foreign.proofs.Laws.Books.{under}
 
@@ -58,18 +58,18 @@ module _ (state : List ℕ) (cents : List ℤ) (f : cellsFit state cents ≡ tru
   ran : (fits : Bool) (s : Run) (t : List ℕ) → Done fits s t → text' ≡ textAfter fits s text → RanBy fits s t past
   ran true s t done e =
       let header = left ∙ ap headOf (done .book-is) in
-      let state-put = state-by Accepted (done .answer-is) ∙ state-whole state (state-fits state cents f) (p .header) counts in
+      let state-put = state-by Accepted (done .answer-is) ∙ state-whole state (state-cells-fit state cents f) (p .header) counts in
       let cents-put = cents-by Accepted (done .answer-is) in
       record {
         answer-is = put .answer-is ∙ ap answerNumber (done .answer-is);
         state-is =
             state-put
-            ∙ ap (λ (h : Header). stateOf h counts) header
-            ∙ ap (stateOf (headOf (s .book))) (counts-are s t done);
+            ∙ ap (λ (h : Header). stateCells h counts) header
+            ∙ ap (stateCells (headOf (s .book))) (counts-are s t done);
         cents-is = cents-put ∙ ap (λ (h : Header). headerCents h cents) header;
         book-is =
             ap (λ (x : List ℕ). under (headerIn x cents') l') state-put
-            ∙ ap (λ (x : List ℤ). under (headerIn (stateOf (p .header) counts) x) l') cents-put
+            ∙ ap (λ (x : List ℤ). under (headerIn (stateCells (p .header) counts) x) l') cents-put
             ∙ ap (λ (h : Header). under h l') (header-of-whole state cents f (p .header) counts ∙ left)
             ∙ done .book-is;
         text-is = e;
@@ -110,7 +110,7 @@ module _ (state : List ℕ) (cents : List ℤ) (f : cellsFit state cents ≡ tru
 -- ---- the end of a text
 
 module _ (state out : List ℕ) where
-  pub end-refused : stateFits state ≡ false → EndCall state out 2 state out
+  pub end-refused : stateCellsFit state ≡ false → EndCall state out 2 state out
   end-refused f = record { answer-is = rw f; state-is = rw f; out-is = rw f }
 
   module _ (past : ℕ) (c : past ≡ endPast (linesIn state) (filledIn state)) (e : Ending) (out' : List ℕ)
@@ -130,7 +130,7 @@ module _ (state out : List ℕ) where
         record { answer-is = put .answer-is ∙ ap answerNumber a; state-is = put .state-is ∙ rw a; out-is = u .out-is ∙ rw i }
 
   pub end-done :
-      stateFits state ≡ true
+      stateCellsFit state ≡ true
       → (lines partial past : ℕ) → lines ≡ linesIn state → partial ≡ filledIn state → past ≡ endPast lines partial
       → (e : Ending) (out' : List ℕ) → EndTaken lines partial out e out'
       → (r : ℕ) (state' : List ℕ) → EndingPut e past state r state'

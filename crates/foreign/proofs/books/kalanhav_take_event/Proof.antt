@@ -22,8 +22,8 @@ book s =
 cells-fit-requires : tie.Need-cells-fit-requires
 cells-fit-requires c κs = search needs
 
-event-fits-requires : tie.Need-event-fits-requires
-event-fits-requires c κs = search needs
+event-cells-fit-requires : tie.Need-event-cells-fit-requires
+event-cells-fit-requires c κs = search needs
 
 same-length : tie.Need-same-length
 same-length c = search needs
@@ -34,7 +34,7 @@ same-length-2 c = search needs
 returns : tie.Need-returns
 returns c =
     let s = c .before .before .before .before .before .before .before .before .before .before in
-    book-refused _ _ _ (s .args .state .now) (s .args .cents .now) (book s) (rw (← c .before .before .cells-fit .ensures, ← c .before .event-fits .ensures) (not-true (c .if1 .taken)))
+    book-refused _ _ _ (s .args .state .now) (s .args .cents .now) (book s) (rw (← c .before .before .cells-fit .ensures, ← c .before .event-cells-fit .ensures) (not-true (c .if1 .taken)))
 
 header-in-requires : tie.Need-header-in-requires
 header-in-requires c κs = search needs
@@ -80,7 +80,7 @@ returns-2 c =
     let s = test .before .before .before .before .before .before .before .before .before .before in
     let o = taken .take-event in
     event-done (s .args .state .now) (s .args .cents .now) (s .args .event .now) (book s)
-    (rw (← test .before .before .cells-fit .ensures, ← test .before .event-fits .ensures) (not-false (test .if1 .left)))
+    (rw (← test .before .before .cells-fit .ensures, ← test .before .event-cells-fit .ensures) (not-false (test .if1 .left)))
     (read .before .header-in .result) (read .before .header-in .ensures)
     (read .event-in .result) (read .event-in .ensures)
     refl
@@ -103,7 +103,7 @@ kalanhav-take-event-spec =
     tie.close
     (tie.spec
     cells-fit-requires
-    event-fits-requires
+    event-cells-fit-requires
     same-length
     same-length-2
     returns

@@ -6,14 +6,14 @@ use borrow.Author.Needs.{needs}
 use Rattle.foreign.proofs.texts.kalanhav_end_text.Statement.{statement}
 use Rattle.foreign.proofs.texts.kalanhav_end_text.Tie as tie
 
-state-fits-requires : tie.Need-state-fits-requires
-state-fits-requires c κs = search needs
+state-cells-fit-requires : tie.Need-state-cells-fit-requires
+state-cells-fit-requires c κs = search needs
 
 same-length : tie.Need-same-length
 same-length c = search needs
 
 returns : tie.Need-returns
-returns c = end-refused (c .before .before .before .before .before .args .state .now) (c .before .before .before .before .before .args .out .now) (sym (c .before .state-fits .ensures) ∙ not-true (c .if1 .taken))
+returns c = end-refused (c .before .before .before .before .before .args .state .now) (c .before .before .before .before .before .args .out .now) (sym (c .before .state-cells-fit .ensures) ∙ not-true (c .if1 .taken))
 
 lines-in-requires : tie.Need-lines-in-requires
 lines-in-requires c κs = search needs
@@ -43,7 +43,7 @@ returns-2 c =
     let test = read .before .before .before .before .before in
     let s = test .before .before .before .before .before in
     end-done (s .args .state .now) (s .args .out .now)
-    (sym (test .before .state-fits .ensures) ∙ not-false (test .if1 .left))
+    (sym (test .before .state-cells-fit .ensures) ∙ not-false (test .if1 .left))
     (read .before .before .before .lines-in .result) (read .before .filled-in .result) (read .end-past .result)
     (read .before .before .before .lines-in .ensures) (read .before .filled-in .ensures) (read .end-past .ensures)
     (ended .end-text .result) _ (ended .end-text .ensures)
@@ -53,7 +53,7 @@ pub kalanhav-end-text-spec : {M : Type 1} → statement M
 kalanhav-end-text-spec =
     tie.close
     (tie.spec
-    state-fits-requires
+    state-cells-fit-requires
     same-length
     returns
     lines-in-requires

@@ -26,10 +26,10 @@ found c = sym (c .before .is-entry .ensures) ∙ not-false (c .if1 .left)
 abbrev start : tie.After-in-capacity → tie.Start
 start c = c .before .before .before .before .before .before
 
-small : (c : tie.After-in-capacity) (b : Bool) → c .before .is-held .result && c .in-capacity .result ≡ b → Small (start c) b
+small : (c : tie.After-in-capacity) (b : Bool) → c .before .position-in-capacity .result && c .in-capacity .result ≡ b → Small (start c) b
 small c b e =
     let amount = c .in-capacity .ensures ∙ ap (inLimit capacity) (toZ-ofZ (start c .fits .amount)) in
-    rw (c .before .is-held .ensures, amount) at e
+    rw (c .before .position-in-capacity .ensures, amount) at e
 
 is-entry-requires : tie.Need-is-entry-requires
 is-entry-requires c κs = search needs
@@ -42,8 +42,8 @@ returns c =
     let a = c .before .before .before .args in
     post-no-entry (a .positions .now) (a .number) (a .amount) (sym (c .before .is-entry .ensures) ∙ not-true (c .if1 .taken))
 
-is-held-requires : tie.Need-is-held-requires
-is-held-requires c κs = search needs
+position-in-capacity-requires : tie.Need-position-in-capacity-requires
+position-in-capacity-requires c κs = search needs
 
 in-capacity-requires : tie.Need-in-capacity-requires
 in-capacity-requires c κs = search needs
@@ -91,7 +91,7 @@ post-spec =
     is-entry-requires
     same-length
     returns
-    is-held-requires
+    position-in-capacity-requires
     in-capacity-requires
     same-length-2
     returns-2

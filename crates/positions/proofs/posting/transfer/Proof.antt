@@ -38,11 +38,11 @@ found c b e = rw (c .before .before .is-entry .ensures, c .is-entry2 .ensures) a
 
 small :
     (c : tie.After-in-capacity) (b : Bool)
-    → c .before .before .before .is-held .result && c .before .is-held2 .result && c .in-capacity .result ≡ b
+    → c .before .before .before .position-in-capacity .result && c .before .position-in-capacity2 .result && c .in-capacity .result ≡ b
     → Small (later-start c) b
 small c b e =
     let amount = c .in-capacity .ensures ∙ ap (inLimit capacity) (toZ-ofZ (later-start c .fits .amount)) in
-    rw (c .before .before .before .is-held .ensures, c .before .is-held2 .ensures, amount) at e
+    rw (c .before .before .before .position-in-capacity .ensures, c .before .position-in-capacity2 .ensures, amount) at e
 
 -- what both tests leave
 both-found : (c : tie.Else2) → Found (last-start c) true
@@ -86,11 +86,11 @@ returns c =
     let a = start (c .before) .args in
     transfer-no-entry (a .positions .now) (a .from) (a .to) (a .amount) (found (c .before) false (not-true (c .if1 .taken)))
 
-is-held-requires : tie.Need-is-held-requires
-is-held-requires c κs = search needs
+position-in-capacity-requires : tie.Need-position-in-capacity-requires
+position-in-capacity-requires c κs = search needs
 
-is-held-requires-2 : tie.Need-is-held-requires-2
-is-held-requires-2 c κs = search needs
+position-in-capacity-requires-2 : tie.Need-position-in-capacity-requires-2
+position-in-capacity-requires-2 c κs = search needs
 
 in-capacity-requires : tie.Need-in-capacity-requires
 in-capacity-requires c κs = search needs
@@ -154,8 +154,8 @@ transfer-spec =
     is-entry-requires-2
     same-length
     returns
-    is-held-requires
-    is-held-requires-2
+    position-in-capacity-requires
+    position-in-capacity-requires-2
     in-capacity-requires
     same-length-2
     returns-2
