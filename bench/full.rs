@@ -1,6 +1,8 @@
 //! Full tables of the largest size, and the texts given to them.
 
-use crate::kalanhav::{Book, ANSWER_BYTES, BANKS, COLLECTION_ROWS, CREDITORS, DEBTORS, MANDATE_ROWS};
+use crate::kalanhav::{
+    Book, ANSWER_BYTES, BANKS, COLLECTION_ROWS, CREDITORS, DEBTORS, MANDATE_ROWS,
+};
 use crate::ledger::{answer_lines, Ledger};
 use crate::random::Random;
 use std::collections::HashSet;

@@ -20,7 +20,10 @@ mod rows;
 use clock::timed;
 use full::{check_answers, lines, texts, Full, Numbers, Text};
 use full::{AMOUNT_CELL, BANK_CELL, COLLECTIONS, FIRST_CELL, LINES, MANDATES, SETTLED, TODAY};
-use kalanhav::{Book, ANSWER_BYTES, BANKS, CREDITORS, DEBTORS, LAST_LINE, LISTING_ROOM, ROW_CELLS, WRITTEN};
+use kalanhav::{
+    Book, ANSWER_BYTES, BANKS, COLLECTION_ROWS, CREDITORS, DEBTORS, LAST_LINE, LISTING_ROOM,
+    MANDATE_ROWS, ROW_CELLS, WRITTEN,
+};
 use ledger::{answer_lines, Ledger};
 use std::hint::black_box;
 use std::time::Duration;
@@ -52,6 +55,22 @@ fn check_tests(full: &Book) {
     let mut short = full.clone();
     short.bank_positions.pop();
     assert!(!short.is_fit() && !short.is_safe());
+}
+
+/// Rows outside their limits are refused, however many.
+fn check_rows() {
+    let outside = [
+        (0, 1),
+        (1, 0),
+        (MANDATE_ROWS + 1, 1),
+        (1, COLLECTION_ROWS + 1),
+        (usize::MAX, 1),
+        (1, usize::MAX),
+    ];
+    for (mandates, collections) in outside {
+        assert_eq!(Book::new(mandates, collections).err(), Some(2));
+    }
+    assert!(Book::new(1, 1).is_ok() && Book::new(MANDATE_ROWS, COLLECTION_ROWS).is_ok());
 }
 
 /// Cells of another count are refused by every call, and a buffer that is too short for the text; nothing changes.
@@ -130,7 +149,10 @@ fn time_walk(ledger: &mut Ledger, given: &[u8], mut out: &mut [u8]) -> Duration 
 fn time_both(full: &Full, numbers: &Numbers, text: &Text) -> [Duration; 2] {
     let given = lines(&text.events);
     let mut copy = given.clone();
-    let mut output = [vec![0; given.len() * ANSWER_BYTES], vec![0; LINES * ANSWER_BYTES]];
+    let mut output = [
+        vec![0; given.len() * ANSWER_BYTES],
+        vec![0; LINES * ANSWER_BYTES],
+    ];
     let mut times = [Vec::new(), Vec::new()];
     let mut used = full.clone();
     for _ in 0..RUNS {
@@ -203,6 +225,7 @@ fn measure(full: &Full, numbers: &Numbers, text: &Text, safe: Duration) {
 fn checked(numbers: &Numbers) -> (Full, Vec<Text>) {
     let full = Full::new(numbers);
     let texts: Vec<Text> = texts(numbers).into_iter().collect();
+    check_rows();
     check_tests(&full.book);
     check_refusals(&full.book, &texts[0]);
     check_past(&full.book, &texts[0]);

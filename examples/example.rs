@@ -4,7 +4,9 @@
 #[path = "../include/kalanhav.rs"]
 mod kalanhav;
 
-use kalanhav::{Book, ANSWER_BYTES, BANKS, CREDITORS, DEBTORS, EVENT_CELLS, FILLED, LISTING_ROOM, PAST, WRITTEN};
+use kalanhav::{
+    Book, ANSWER_BYTES, BANKS, CREDITORS, DEBTORS, EVENT_CELLS, FILLED, LISTING_ROOM, PAST, WRITTEN,
+};
 use std::io::{self, Read, Write};
 
 /// `TEXT_LEAST` or more.

@@ -6,6 +6,8 @@
  *
  * A call answers 0 where it was done, else the number of a refusal (docs/REFUSALS.md); then no cell and no byte that was lent has changed.
  * The two tests, kalanhav_is_fit and kalanhav_is_safe, answer true or false.
+ * Whether a collection stands paid is asked by a return of it, kind 8, given to a copy of state, cents and tables: 0 or 17 says yes
+ * (docs/EVENTS.md, "Does a plan stand paid?"). The cells of a row are those of crates/tables/specs/MandateColumn and CollectionColumn.
  * The contracts stand in crates/foreign/src, the rules in crates/model/specs. Most callers use the functions kalanhav_book_... below. */
 #ifndef KALANHAV_H
 #define KALANHAV_H
@@ -82,7 +84,8 @@ uint64_t kalanhav_position(const uint64_t *state, size_t state_length, int64_t *
 
 /* Takes a text: the first bytes of `text`, as many as the cell KALANHAV_FILLED says. Each line is answered to `out`. The bytes of a line
  * that has not ended are put to the front of the text, cut to KALANHAV_PARTIAL_BYTES, and their number to KALANHAV_FILLED: the next bytes
- * go behind them. In unfit memory each sound line is answered with 2, and the call with 0.
+ * go behind them. Other bytes of `text` and of `out` stay as they were. In unfit memory a line that is no event gets 1, 3, 4 or 5 as ever,
+ * each other one 2, and the call 0.
  * 2: state or cents of another length, more bytes than the text has, or less than 10 bytes of room in `out` for each: have
  * KALANHAV_ANSWER_ROOM(text_length). Then KALANHAV_FILLED is as it was given. */
 uint64_t kalanhav_take_text(uint64_t *state, size_t state_length, int64_t *cents, size_t cents_length, uint8_t *text,
@@ -91,12 +94,13 @@ uint64_t kalanhav_take_text(uint64_t *state, size_t state_length, int64_t *cents
     size_t creditor_positions_length, int64_t *debtor_positions, size_t debtor_positions_length, int64_t *bank_positions,
     size_t bank_positions_length);
 
-/* Ends a text whose last piece was taken: a partial line, whose bytes KALANHAV_FILLED counts, is answered with 1; KALANHAV_FILLED becomes 0.
+/* Ends a text whose last piece was taken: a partial line, whose bytes KALANHAV_FILLED counts, is answered with 1, and KALANHAV_FILLED
+ * becomes 0. Other bytes of `out` stay as they were.
  * 2: a state of another length, or less than 10 bytes in `out`. */
 uint64_t kalanhav_end_text(uint64_t *state, size_t state_length, uint8_t *out, size_t out_length);
 
-/* Writes the lines of all positions that are not 0 and of the total compensation. 2: unfit memory, state or cents of another length, or
- * less than KALANHAV_LISTING_ROOM bytes in `out`. */
+/* Writes the lines of all positions that are not 0 and of the total compensation. Bytes of `out` behind them stay as they were. 2: unfit
+ * memory, state or cents of another length, or less than KALANHAV_LISTING_ROOM bytes in `out`. */
 uint64_t kalanhav_list_positions(uint64_t *state, size_t state_length, const int64_t *cents, size_t cents_length,
     const uint64_t *mandates, size_t mandates_length, const uint64_t *collections, size_t collections_length,
     const uint64_t *creditors, size_t creditors_length, const int64_t *creditor_positions, size_t creditor_positions_length,
@@ -116,7 +120,9 @@ bool kalanhav_is_fit(const uint64_t *state, size_t state_length, const int64_t *
     const uint64_t *creditors, size_t creditors_length, const int64_t *creditor_positions, size_t creditor_positions_length,
     const int64_t *debtor_positions, size_t debtor_positions_length, const int64_t *bank_positions, size_t bank_positions_length);
 
-/* Whether memory is safe: fit, and every position within what the collections have moved, as the ledger itself leaves it. */
+/* Whether memory is safe: fit, and every position within what the collections have moved. An opening leaves it safe, and every call that
+ * finds it safe leaves it safe. Where memory of another origin is fit alone, an accepted event may carry a position beyond its limit;
+ * the memory is unfit from then on. */
 bool kalanhav_is_safe(const uint64_t *state, size_t state_length, const int64_t *cents, size_t cents_length,
     const uint64_t *mandates, size_t mandates_length, const uint64_t *collections, size_t collections_length,
     const uint64_t *creditors, size_t creditors_length, const int64_t *creditor_positions, size_t creditor_positions_length,

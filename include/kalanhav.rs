@@ -1,6 +1,6 @@
-//! Kalanhav for Rust: the functions of target/staticlib/libforeign.a, which `rt staticlib foreign` writes, declared and
-//! wrapped. What each does and refuses stands in include/kalanhav.h. tests/declarations.py holds both to crates/foreign/src. A slice
-//! passes as a pointer and a length.
+//! Kalanhav for Rust, edition 2021: the functions of target/staticlib/libforeign.a, which `rt staticlib foreign` writes, declared
+//! and wrapped. What each does and refuses stands in include/kalanhav.h. tests/declarations.py holds both to crates/foreign/src. A
+//! slice passes as a pointer and a length.
 #![allow(dead_code)]
 
 /// Cells of a state, of cents, of a row and of an event.
@@ -27,11 +27,12 @@ pub const PAST: usize = 6;
 pub const COMPENSATION: usize = 0;
 pub const FIGURE: usize = 1;
 
-/// The most lines that are answered; the bytes of an event's line, and the least text that always has room for a further byte; the bytes
-/// of an answer and of a position; room for a listing.
+/// The most lines that are answered; the bytes of an event's line, the most of a partial one, and the least text that always has room
+/// for a further byte; the bytes of an answer, of which a text needs one for each byte, and of a position; room for a listing.
 pub const LAST_LINE: u64 = 999_999;
 pub const LINE_BYTES: usize = 75;
-pub const TEXT_LEAST: usize = LINE_BYTES + 2;
+pub const PARTIAL_BYTES: usize = LINE_BYTES + 1;
+pub const TEXT_LEAST: usize = PARTIAL_BYTES + 1;
 pub const ANSWER_BYTES: usize = 10;
 pub const POSITION_BYTES: usize = 27;
 pub const LISTING_ROOM: usize = (CREDITORS + DEBTORS + BANKS + 1) * POSITION_BYTES;
@@ -254,8 +255,11 @@ macro_rules! call {
 
 /// A number that a function gives is 0, or that of a refusal, which changes nothing.
 impl Book {
-    /// Memory with so many rows, opened if they are within their limits.
+    /// Memory with so many rows, opened; 2 for rows outside their limits.
     pub fn new(mandate_rows: usize, collection_rows: usize) -> Result<Book, u64> {
+        if mandate_rows > MANDATE_ROWS || collection_rows > COLLECTION_ROWS {
+            return Err(2);
+        }
         let mut book = Book {
             state: vec![0; STATE_CELLS],
             cents: vec![0; CENTS_CELLS],

@@ -52,7 +52,7 @@ pub record First (n r : ℕ) : Type 0 where
   pub is-open : isOpen r ≡ true
   pub shut : (j : ℕ) → n ≤ j → j < r → isOpen j ≡ false
 
--- the first open day of n and the f days after it, or the day after those
+-- the first open one of f days from n on, or the day behind them
 unfoldable pub seek : ℕ → ℕ → ℕ
 seek zero n = n
 seek (suc f) n = cond (isOpen n) n (seek f (n + 1))
