@@ -1,7 +1,6 @@
 #!/usr/bin/env python3
 """include/kalanhav.h and include/kalanhav.rs declare the functions of crates/foreign as they are: names, order and types of the
-parameters, and the result. A slice passes as a pointer and a length. Their numbers are those of the code, and the same in both.
-A difference fails."""
+parameters, and the result. A slice passes as a pointer and a length. Their numbers are those of the code. A difference fails."""
 import re
 import sys
 from pathlib import Path
@@ -13,6 +12,8 @@ CONSTANTS = {
     "common/src/lib.rt": {"CREDITORS": "CREDITORS", "DEBTORS": "DEBTORS", "BANKS": "BANKS", "MANDATE_ROWS": "MANDATE_ROWS",
                           "COLLECTION_ROWS": "COLLECTION_ROWS"},
     "tables/src/rows.rt": {"ROW_CELLS": "STRIDE"},
+    "cells/src/lib.rt": {name: name for name in ("LATEST", "MANDATES_USED", "COLLECTIONS_USED", "LINES", "FILLED", "WRITTEN", "PAST",
+                                                "COMPENSATION", "FIGURE")},
     "cells/src/reading.rt": {"STATE_CELLS": "STATE_CELLS", "CENTS_CELLS": "CENTS_CELLS", "EVENT_CELLS": "EVENT_CELLS"},
     "lines/src/line.rt": {"LINE_BYTES": "LINE"},
     "report/src/layout.rt": {"ANSWER_BYTES": "ANSWER", "POSITION_BYTES": "POSITION", "LAST_LINE": "LAST_NUMBER"},
@@ -63,15 +64,14 @@ def numbers(text, pattern):
 
 
 def wrong_numbers():
-    """The names whose number is not that of the code or, where the code has none, not the same in both files."""
+    """The names whose number is not that of the code, and those that the code does not have."""
     known = {}
     for path, names in CONSTANTS.items():
         code = numbers((TOP / "crates" / path).read_text(), r"^(?:pub )?const (\w+): \w+ = ([\d_]+);")
         known |= {name: code[own] for name, own in names.items()}
     in_header = numbers((TOP / "include/kalanhav.h").read_text(), r"^(?:#define | +)KALANHAV_(\w+)(?: =)? (\d+)\b")
     in_module = numbers((TOP / "include/kalanhav.rs").read_text(), r"^pub const (\w+): \w+ = ([\d_]+);")
-    known = in_header | known
-    wrong = [f"include/kalanhav.h: {name}" for name in known if in_header.get(name) != known[name]]
+    wrong = [f"include/kalanhav.h: {name}" for name in in_header.keys() | known.keys() if in_header.get(name) != known.get(name)]
     return wrong + [f"include/kalanhav.rs: {name}" for name in in_module if known.get(name) != in_module[name]]
 
 

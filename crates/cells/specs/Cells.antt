@@ -1,8 +1,9 @@
 -- What a program in another language lends beside the tables: seven cells of a state, two of cents, nine of an event. Numbered from 0:
 --   state 0 the latest date, 1 and 2 the rows used of mandates and of collections, 3 the lines answered, 4 the bytes of the text (after a
---   call those of the partial line), 5 the bytes written, 6 the lines of the last piece that were not taken;
+--   call those of the partial line), 5 the bytes written, 6 the lines of the last text, or of its end, that were not taken;
 --   cents 0 the total compensation, 1 the figure of the last position query; event 0 to 8 the fields in their order.
--- Assumes nothing.
+-- `ReadsBack` at the end holds what reads a cell to what writes it. Assumes nothing.
+use mathlib.Core.Path.{_≡_}
 use mathlib.Core.Bool.{Bool, _&&_}
 use mathlib.Core.List.{List, [], _∷_}
 use Prim.Native.Nat.{ℕ}
@@ -103,3 +104,20 @@ headOf l = record {
   collections = l .collectionsUsed;
   compensation = l .compensation;
 }
+
+-- ---- what was written is read: the cells as they stand one after the other, and what is read of them
+
+abbrev pub eventCells : Event → List ℕ
+eventCells e =
+    e .kind ∷ e .date ∷ e .mandate ∷ e .a ∷ e .b ∷ e .c ∷ e .amount ∷ e .second ∷ e .code ∷ []
+
+abbrev pub withWritten : ℕ → Counts → Counts
+withWritten n c = record { lines = c .lines; partial = c .partial; written = n; past = c .past }
+
+pub record ReadsBack : Type 0 where
+  pub header : (h : Header) (c : Counts) (figure : ℤ) → headerIn (stateCells h c) (h .compensation ∷ figure ∷ []) ≡ h
+  pub lines : (h : Header) (c : Counts) → linesIn (stateCells h c) ≡ c .lines
+  pub filled : (h : Header) (c : Counts) → filledIn (stateCells h c) ≡ c .partial
+  pub written : (h : Header) (c : Counts) (n : ℕ) → writtenState n (stateCells h c) ≡ stateCells h (withWritten n c)
+  pub figure : (total old z : ℤ) → figureCents (Figure z) (total ∷ old ∷ []) ≡ total ∷ z ∷ []
+  pub event : (e : Event) → cellsEvent (eventCells e) ≡ e

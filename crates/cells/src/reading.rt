@@ -3,6 +3,12 @@ ghost use mathlib.Core.Path.{_≡_};
 ghost use lib.IntN.{pos};
 ghost use lib.ListN.{getD};
 ghost use Rattle.cells.specs.Cells.{stateCellsFit, cellsFit, eventCellsFit, headerIn, cellsEvent, linesIn, filledIn};
+use crate::COLLECTIONS_USED;
+use crate::COMPENSATION;
+use crate::FILLED;
+use crate::LATEST;
+use crate::LINES;
+use crate::MANDATES_USED;
 use events::Event;
 use tables::Header;
 
@@ -58,10 +64,10 @@ pub fn header_in(state: &[u64], cents: &[i64]) -> Header
     ensures { λ r. ⌜ r ≡ headerIn (now (state .entry)) (now (cents .entry)) ⌝ }
 {
     Header {
-        latest: cell(state, 0),
-        mandates: cell(state, 1) as usize,
-        collections: cell(state, 2) as usize,
-        compensation: cents_cell(cents, 0),
+        latest: cell(state, LATEST),
+        mandates: cell(state, MANDATES_USED) as usize,
+        collections: cell(state, COLLECTIONS_USED) as usize,
+        compensation: cents_cell(cents, COMPENSATION),
     }
 }
 
@@ -69,14 +75,14 @@ pub fn header_in(state: &[u64], cents: &[i64]) -> Header
 pub fn lines_in(state: &[u64]) -> u64
     ensures { λ r. ⌜ r ≡ linesIn (now (state .entry)) ⌝ }
 {
-    cell(state, 3)
+    cell(state, LINES)
 }
 
 // The bytes of the text.
 pub fn filled_in(state: &[u64]) -> usize
     ensures { λ r. ⌜ r ≡ filledIn (now (state .entry)) ⌝ }
 {
-    cell(state, 4) as usize
+    cell(state, FILLED) as usize
 }
 
 // The event that stands in the cells.

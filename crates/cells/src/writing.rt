@@ -3,7 +3,16 @@ ghost use mathlib.Core.Path.{_≡_};
 ghost use lib.ListN.{set};
 ghost use Rattle.model.specs.Step.{queryNumber};
 ghost use Rattle.cells.specs.Cells.{headerState, headerCents, countsState, writtenState, figureCents, freshState, freshCents};
+use crate::COLLECTIONS_USED;
+use crate::COMPENSATION;
 use crate::Counts;
+use crate::FIGURE;
+use crate::FILLED;
+use crate::LATEST;
+use crate::LINES;
+use crate::MANDATES_USED;
+use crate::PAST;
+use crate::WRITTEN;
 use model::QueryAnswer;
 use refusals::number_of;
 use tables::Header;
@@ -31,30 +40,30 @@ pub fn put_header(header: Header, state: &mut [u64], cents: &mut [i64])
     ensures state { λ _. ⌜ now (state .exit) ≡ headerState header (now (state .entry)) ⌝ }
     ensures cents { λ _. ⌜ now (cents .exit) ≡ headerCents header (now (cents .entry)) ⌝ }
 {
-    put(state, 0, header.latest);
-    put(state, 1, header.mandates as u64);
-    put(state, 2, header.collections as u64);
-    put_cents(cents, 0, header.compensation);
+    put(state, LATEST, header.latest);
+    put(state, MANDATES_USED, header.mandates as u64);
+    put(state, COLLECTIONS_USED, header.collections as u64);
+    put_cents(cents, COMPENSATION, header.compensation);
 }
 
 // Writes what a text leaves; the other cells stay.
 pub fn put_counts(counts: Counts, state: &mut [u64])
     ensures { λ _. ⌜ now (state .exit) ≡ countsState counts (now (state .entry)) ⌝ }
 {
-    put(state, 3, counts.lines);
-    put(state, 4, counts.partial as u64);
-    put(state, 5, counts.written as u64);
-    put(state, 6, counts.past);
+    put(state, LINES, counts.lines);
+    put(state, FILLED, counts.partial as u64);
+    put(state, WRITTEN, counts.written as u64);
+    put(state, PAST, counts.past);
 }
 
 // Writes how many bytes a listing has; the other cells stay.
 pub fn put_written(written: usize, state: &mut [u64])
     ensures { λ _. ⌜ now (state .exit) ≡ writtenState written (now (state .entry)) ⌝ }
 {
-    put(state, 5, written as u64);
+    put(state, WRITTEN, written as u64);
 }
 
-// Writes 0 to every cell.
+// Writes 0 to every cell of a state and of cents.
 pub fn put_fresh(state: &mut [u64], cents: &mut [i64])
     ensures state { λ _. ⌜ now (state .exit) ≡ freshState (now (state .entry)) ⌝ }
     ensures cents { λ _. ⌜ now (cents .exit) ≡ freshCents (now (cents .entry)) ⌝ }
@@ -73,7 +82,7 @@ pub fn put_fresh(state: &mut [u64], cents: &mut [i64])
     };
     put_header(header, state, cents);
     put_counts(counts, state);
-    put_cents(cents, 1, 0);
+    put_cents(cents, FIGURE, 0);
 }
 
 // The number of the answer to a position query; its figure is written where there is one.
@@ -83,7 +92,7 @@ pub fn put_query(answer: QueryAnswer, cents: &mut [i64]) -> u64
 {
     match answer {
         QueryAnswer::Figure(figure) => {
-            put_cents(cents, 1, figure);
+            put_cents(cents, FIGURE, figure);
             0
         }
         QueryAnswer::Refused(r) => number_of(r),

@@ -3,7 +3,7 @@
 use mathlib.Core.Path.{_≡_}
 use mathlib.Core.Bool.{Bool}
 use mathlib.Core.List.{List}
-use Prim.Native.Nat.{ℕ, _*_, _≤_}
+use Prim.Native.Nat.{ℕ, _*_, _≤_, _<_}
 use lib.ListN.{length, take}
 use Rattle.digits.specs.Field.{pasted}
 use Rattle.tables.specs.Ledger.{Ledger}
@@ -45,5 +45,6 @@ pub record Turned (l : Ledger) (p : Stage) (filled : ℕ) (text out : List ℕ) 
 pub record InputTaken (start : Run) (l : Ledger) (lines partial : ℕ) (past : Bool) (text : List ℕ) : Type 0 where
   pub input : List ℕ
   pub run-is : runAt l lines (take partial text) ≡ takeText start input
-  pub inside : partial ≤ length text
+  -- there is room to read on
+  pub room : partial < length text
   pub past-is : past ≡ passes 0 input (takeText start input)

@@ -4,12 +4,12 @@
 ghost use mathlib.Core.Path.{_≡_};
 ghost use mathlib.Core.Bool.{true, false, not, _&&_};
 ghost use mathlib.Core.List.{[]};
-ghost use Prim.Native.Nat.{_*_, _≤_};
+ghost use Prim.Native.Nat.{_*_, _≤_, _<_};
 ghost use lib.Dec.{ltb};
 ghost use lib.ListN.{length};
 ghost use Rattle.tables.specs.Ledger.{ledger};
 ghost use Rattle.report.specs.Layout.{answerLength};
-ghost use Rattle.run.specs.Run.{runAt};
+ghost use Rattle.run.specs.Run.{runAt, clippedLength};
 ghost use Rattle.ledger.specs.Input.{Behind, Given, Turned, InputTaken};
 ghost use Rattle.ledger.specs.Program.{Begins, LastRoom, Finished, Shown};
 use libc::STDERR_FILENO;
@@ -57,7 +57,7 @@ struct Filled {
 
 // Reads once behind the partial line; no more bytes than before are there at the end of the input and where the read failed.
 fn fill(text: &mut [u8], partial: usize) -> Filled
-    requires { ⌜ partial ≤ length (now text) ⌝ }
+    requires { ⌜ partial < length (now text) ⌝ }
     ensures { λ r. ⌜ Behind partial (now (text .entry)) (r .bytes) (now (text .exit)) ⌝ }
 {
     match read_behind(text, partial) {
@@ -79,7 +79,7 @@ fn fill(text: &mut [u8], partial: usize) -> Filled
 // Writes the first bytes of a buffer if the run is whole, and says whether it still is.
 fn send(whole: bool, out: &[u8], bytes: usize) -> bool
     requires { ⌜ bytes ≤ length (now out) ⌝ }
-    ensures { λ r. ⌜ (whole ≡ false → r ≡ false) ⌝ }
+    ensures { λ r. ⌜ (whole ≡ false → r ≡ false) × (bytes ≡ 0 → r ≡ whole) ⌝ }
 {
     if !whole {
         return false;
@@ -150,7 +150,7 @@ fn take_input(
     debtor_positions: &mut [i64],
     bank_positions: &mut [i64],
 ) -> Stage
-    requires { ⌜ answerLength * length (now text) ≤ length (now out) ⌝ }
+    requires { ⌜ (clippedLength < length (now text)) × (answerLength * length (now text) ≤ length (now out)) ⌝ }
     ensures { λ r. ⌜ InputTaken (runAt (ledger header (now (mandates .entry)) (now (collections .entry)) (now (creditors .entry)) (now («creditor_positions» .entry)) (now («debtor_positions» .entry)) (now («bank_positions» .entry))) 0 [])
         (ledger (r .header) (now (mandates .exit)) (now (collections .exit)) (now (creditors .exit)) (now («creditor_positions» .exit)) (now («debtor_positions» .exit)) (now («bank_positions» .exit))) (r .lines) (r .partial) (r .beyond) (now (text .exit)) ⌝ }
 {

@@ -1,6 +1,6 @@
 -- Cells that are as many as they should be: what was written to them is read, and all of them together. To cite: `header-back`,
--- `header-of-whole`, `state-whole`, `fresh-state`, `fresh-cents`. Assumes nothing.
-use mathlib.Core.Path.{_≡_, sym, ap, _∙_}
+-- `header-of-whole`, `state-whole`, `fresh-state`, `fresh-cents`, `reads-back`. Assumes nothing.
+use mathlib.Core.Path.{_≡_, refl, sym, ap, _∙_}
 use mathlib.Core.Bool.{true}
 use mathlib.Core.List.{List, [], _∷_, _++_, append-nil}
 use Prim.Native.Nat.{ℕ, _≤_}
@@ -13,7 +13,7 @@ use lib.Seq.{sets, sets-eq, drop-length}
 use Rattle.common.proofs.Tests.{and-halves}
 use Rattle.tables.specs.declared.Header.{Header}
 use Rattle.cells.specs.declared.Counts.{Counts}
-use Rattle.cells.specs.Cells.{stateCellsFit, cellsFit, headerIn, headerState, headerCents, countsState, stateCells, freshHeader, freshCounts, freshState, freshCents}
+use Rattle.cells.specs.Cells.{stateCellsFit, cellsFit, headerIn, headerState, headerCents, countsState, stateCells, freshHeader, freshCounts, freshState, freshCents, ReadsBack}
 
 -- as many stores as there are cells
 sets-whole : {A : Type 0} (vs l : List A) → length l ≡ length vs → sets l 0 vs ≡ vs
@@ -55,3 +55,14 @@ module _ (state : List ℕ) (cents : List ℤ) (f : cellsFit state cents ≡ tru
 
   pub header-of-whole : (h : Header) (c : Counts) → headerIn (stateCells h c) (headerCents h cents) ≡ h
   header-of-whole h c = ap (headerIn (stateCells h c)) (cents-head (h .compensation))
+
+pub reads-back : ReadsBack
+reads-back =
+    record {
+      header = λ h c figure. refl;
+      lines = λ h c. refl;
+      filled = λ h c. refl;
+      written = λ h c n. refl;
+      figure = λ total old z. refl;
+      event = λ e. refl;
+    }

@@ -13,7 +13,7 @@ use Rattle.common.proofs.Tests.{not-true, and-halves}
 use Rattle.digits.specs.Field.{pasted}
 use Rattle.tables.specs.Ledger.{Ledger}
 use Rattle.report.specs.Layout.{lastNumber, answerLength}
-use Rattle.run.specs.Run.{Run, runAt, takeText}
+use Rattle.run.specs.Run.{Run, runAt, takeText, clippedLength}
 use Rattle.report.proofs.Laws.Cut.{Endless}
 use Rattle.run.specs.Lines.{linesFrom, answeredLines}
 use Rattle.run.proofs.Laws.Run.{partial-none, partial-text, piece-by-piece}
@@ -33,6 +33,12 @@ use Rattle.ledger.specs.Input.{Behind, Given, passes, Turned, InputTaken
 pub front-length : (x out : List ℕ) → length x ≤ length (pasted 0 x out)
 front-length x out = omega (arith, length-append x (drop (0 + length x) out))
 
+pub less-le : (a b : ℕ) → a < b → a ≤ b
+less-le a b h = omega (arith, h)
+
+pub same-room : (n m : ℕ) → m ≡ n → clippedLength < n → clippedLength < m
+same-room n m e h = omega (arith, e, h)
+
 -- ---- a read
 
 -- bytes, or none
@@ -41,7 +47,7 @@ fill-some partial n text got text' e r =
     let i : Inside partial (length text') (Bytes n) = subst (Inside partial (length text')) e (r .inside) in
     record { front = r .front; onward = omega arith; inside = i .inside }
 
-pub fill-none : (partial : ℕ) (text : List ℕ) (got : Got) (text' : List ℕ) → partial ≤ length text → length text' ≡ length text → ReadBehind partial text got text' → Behind partial text partial text'
+pub fill-none : (partial : ℕ) (text : List ℕ) (got : Got) (text' : List ℕ) → partial < length text → length text' ≡ length text → ReadBehind partial text got text' → Behind partial text partial text'
 fill-none partial text got text' h e r = record { front = r .front; onward = omega arith; inside = omega (arith, h, e) }
 
 -- ---- a turn
@@ -133,9 +139,12 @@ not-past more going past whole e t =
 nothing-past : (m : ℕ) → false ≡ ltb 0 (length (drop {A = List ℕ} m [])) || (leb lastNumber 0 && false)
 nothing-past m = rw (drop-nil {A = List ℕ} m)
 
-pub taken-none : (l : Ledger) (text : List ℕ) → InputTaken (runAt l 0 []) l 0 0 false text
+pub taken-none : (l : Ledger) (text : List ℕ) → clippedLength < length text → InputTaken (runAt l 0 []) l 0 0 false text
 unfolding takeText linesFrom
-taken-none l text = record { input = []; run-is = refl; inside = omega arith; past-is = nothing-past (lastNumber - 0) }
+taken-none l text h = record { input = []; run-is = refl; room = omega (arith, h); past-is = nothing-past (lastNumber - 0) }
+
+short-room : (n m k : ℕ) → n ≡ m → m ≤ clippedLength → clippedLength < k → n < k
+short-room n m k e s h = omega (arith, e, s, h)
 
 -- a read and its turn
 module _ (l₀ l : Ledger) (p : Stage) (text : List ℕ) (a : InputTaken (runAt l₀ 0 []) l (p .lines) (p .partial) (p .beyond) text) where
@@ -180,12 +189,13 @@ module _ (l₀ l : Ledger) (p : Stage) (text : List ℕ) (a : InputTaken (runAt 
           ∙ ap (λ (n : ℕ). goesPast n (takeText (runAt l₀ 0 []) (a .input ++ bytes) .lines) (length (takeText (runAt l₀ 0 []) (a .input ++ bytes) .partial))) (past-next (a .input) few (p .lines) (take (p .partial) text) bytes lines-are endless)
 
       pub taken-on : (out : List ℕ) (r : Stage) (l' : Ledger) (text'' out' : List ℕ)
+          → clippedLength < length text''
           → Turned l p filled text' out r l' text'' out'
           → InputTaken (runAt l₀ 0 []) l' (r .lines) (r .partial) (r .beyond) text''
-      taken-on out r l' text'' out' t =
+      taken-on out r l' text'' out' h t =
           record {
             input = a .input ++ bytes;
             run-is = t .run-is ∙ piece-is;
-            inside = turned-partial l p filled text' out r l' text'' out' t;
+            room = short-room _ _ _ (t .partial-is) (partial-text (take filled text') (runAt l (p .lines) []) (partial-none l (p .lines)) .short) h;
             past-is = t .past-is ∙ same-past;
           }

@@ -40,7 +40,7 @@ use Rattle.listing.proofs.Laws.Listing.{listed-is}
 use Rattle.run.proofs.Laws.Program.{program-kept}
 use Rattle.ledger.specs.Input.{InputTaken}
 use Rattle.ledger.specs.Program.{mandateRows, collectionRows, Begins, LastRoom, lastOutput, Finished, Shown}
-use Rattle.ledger.proofs.Laws.Input.{front-length}
+use Rattle.ledger.proofs.Laws.Input.{front-length, less-le}
 
 -- ---- the start
 
@@ -165,7 +165,7 @@ module _ (l l' : Ledger) (lines partial : ℕ) (past : Bool) (text : List ℕ) (
   -- the bytes of the partial line
   last-is : endBytes lines partial ≡ endOutput (takeText (runAt l 0 []) (t .input))
   last-is =
-      ap (endBytes lines) (sym (length-take-le partial text (t .inside)))
+      ap (endBytes lines) (sym (length-take-le partial text (less-le _ _ (t .room))))
       ∙ ap endOutput (t .run-is)
 
   pub shown-after : (out : List ℕ) (bytes : ℕ) (out' : List ℕ) → Finished l' lines partial out bytes out' → Shown l bytes out'

@@ -10,7 +10,7 @@ use borrow.Author.Needs.{needs}
 use Rattle.tables.specs.Ledger.{ledger}
 use Rattle.run.specs.Run.{runAt}
 use Rattle.ledger.specs.Input.{InputTaken}
-use Rattle.ledger.proofs.Laws.Input.{turned-output, turns-left, more-left, not-past, taken-none, taken-on}
+use Rattle.ledger.proofs.Laws.Input.{turned-output, turns-left, more-left, not-past, taken-none, taken-on, same-room}
 use Rattle.ledger.proofs.take_input.Statement.{statement}
 use Rattle.ledger.proofs.take_input.Tie as tie
 
@@ -34,7 +34,7 @@ abbrev μ-loop : tie.MeasureT-loop
 μ-loop text₀ out₀ mandates₀ collections₀ creditors₀ creditor-positions₀ debtor-positions₀ bank-positions₀ p₀ more₀ turns₀ text out mandates collections creditors creditor-positions debtor-positions bank-positions p more turns = turns
 
 loop-holds : tie.Need-loop-holds Inv-loop μ-loop
-loop-holds c = (taken-none _ _, refl, refl, refl, refl, refl, refl, refl, refl, λ going. refl)
+loop-holds c = (taken-none _ _ (c .before .before .before .before .before .pre .0), refl, refl, refl, refl, refl, refl, refl, refl, λ going. refl)
 
 sub-turns : tie.Need-sub-turns Inv-loop μ-loop
 sub-turns c =
@@ -42,14 +42,14 @@ sub-turns c =
     turns-left (at .turns) (at .more) (c .loop-test .taken)
 
 fill-requires : tie.Need-fill-requires Inv-loop μ-loop
-fill-requires c κs = c .before .before .loop .inv .0 .inside
+fill-requires c κs = c .before .before .loop .inv .0 .room
 
 take-piece-requires : tie.Need-take-piece-requires Inv-loop μ-loop
 take-piece-requires c κs =
     let read = c .before .before .before .before .before .before .before .before .before .before .fill in
     record {
       inside = read .ensures .inside;
-      room = omega (arith, c .before .before .before .before .before .before .before .before .before .before .before .before .before .before .before .before .before .before .before .pre, read .kept .0);
+      room = omega (arith, c .before .before .before .before .before .before .before .before .before .before .before .before .before .before .before .before .before .before .before .pre .1, read .kept .0);
     }
 
 send-requires : tie.Need-send-requires Inv-loop μ-loop
@@ -69,7 +69,7 @@ loop-again c =
     let at = c .before .before .before .before .before .before .before .before .before .before .before .before .before .before .before .before .before .before .before .before .before .before .before .before .before .before .before .before .before .before .loop in
     let read = c .before .before .before .before .before .before .before .before .before .before .before .before .before .before .before .before .before .before .before .before .before .before .before .before .before .before .before .fill in
     let turn = c .before .before .before .before .before .before .before .before .before .before .before .before .before .before .before .before .take-piece in (
-      taken-on _ _ _ _ (at .inv .0) _ _ (read .ensures) (at .inv .9 (more-left (at .turns) (at .more) (c .before .before .before .before .before .before .before .before .before .before .before .before .before .before .before .before .before .before .before .before .before .before .before .before .before .before .before .before .before .loop-test .taken))) _ _ _ _ _ (turn .ensures),
+      taken-on _ _ _ _ (at .inv .0) _ _ (read .ensures) (at .inv .9 (more-left (at .turns) (at .more) (c .before .before .before .before .before .before .before .before .before .before .before .before .before .before .before .before .before .before .before .before .before .before .before .before .before .before .before .before .before .loop-test .taken))) _ _ _ _ _ (same-room _ _ (turn .kept .1 .1 .0 ∙ read .kept .0 ∙ at .inv .1) (c .before .before .before .before .before .before .before .before .before .before .before .before .before .before .before .before .before .before .before .before .before .before .before .before .before .before .before .before .before .before .before .before .before .before .before .before .pre .0)) (turn .ensures),
       turn .kept .1 .1 .0 ∙ read .kept .0 ∙ at .inv .1,
       turn .kept .1 .1 .1 .0 ∙ at .inv .2,
       turn .kept .1 .1 .1 .1 .0 ∙ at .inv .3,

@@ -1,20 +1,23 @@
 -- Laws of specs/Past: the lines of a text counted byte by byte. To cite: `Counted` with `count-start`, `count-step`, `count-end`; `few-bytes`,
--- `few-lines`, `lines-over`; `past-next`. Assumes nothing.
+-- `few-lines`, `lines-over`; `past-next`; `past-holds`. Assumes nothing.
 use mathlib.Core.Path.{_≡_, refl, sym, ap, _∙_}
-use mathlib.Core.Bool.{Bool, true, false, cond}
+use mathlib.Core.Bool.{Bool, true, false, cond, _&&_, _||_}
 use mathlib.Core.List.{List, [], _∷_, _++_}
+use mathlib.Core.Logic.{⊎-elim}
 use Prim.Native.Nat.{ℕ, zero, suc, _+_, _-_, _≤_, _<_}
 use native.Mathlib.Nat.{zero-add}
 use native.Mathlib.Omega.{arith}
-use borrow.Author.Tests.{ne-eqb}
-use lib.Dec.{eqb}
+use borrow.Author.Tests.{ne-eqb, lt-ltb, le-ltb, le-leb, lt-leb, ltb-true, ltb-false}
+use lib.Dec.{eqb, ltb, leb}
 use lib.ListN.{length, take, drop, getD, length-take, length-drop}
 use lib.Seq.{drop-cons, drop-length}
+use Rattle.common.proofs.Tests.{true-or-false}
 use Rattle.lines.specs.Line.{lineEnd}
 use Rattle.report.specs.Layout.{lastNumber}
 use Rattle.run.specs.Lines.{linesFrom, answeredLines}
 use Rattle.report.proofs.Laws.Cut.{Endless}
-use Rattle.listing.specs.Past.{linesPast}
+use Rattle.run.specs.Run.{endLines}
+use Rattle.listing.specs.Past.{linesPast, goesPast, PastHolds}
 
 abbrev lineCount : List ℕ → ℕ
 lineCount text = length (linesFrom [] text)
@@ -141,3 +144,40 @@ module _ (first : List ℕ) (few : linesPast 0 first ≡ 0) where
       ∙ same-over lastNumber (lineCount first) n (lineCount second) (sym (past-is 0 first) ∙ few) (e ∙ all-answered)
       ∙ ap (λ (k : ℕ). k - (lastNumber - 0)) (sym (count-both first second))
       ∙ sym (past-is 0 (first ++ second))
+
+-- ---- the lines that there are, and those that are answered
+
+all-lines : (n : ℕ) (text : List ℕ) → length (answeredLines n text) + linesPast n text ≡ lineCount text
+unfolding answeredLines
+all-lines n text = omega (arith, length-take (lastNumber - n) (linesFrom [] text), length-drop (lastNumber - n) (linesFrom [] text))
+
+abbrev MoreLines : ℕ → ℕ → ℕ → Type 0
+MoreLines over lines partial = goesPast over lines partial ≡ ltb (endLines lines partial) (lines + over + cond (ltb 0 partial) 1 0)
+
+-- no line is past the last: a partial one may be
+more-none : (lines partial : ℕ) → MoreLines 0 lines partial
+more-none lines partial =
+    ⊎-elim
+    (λ (f : ltb lines lastNumber ≡ true). rw (f, lt-leb lastNumber lines (ltb-true lines lastNumber f)) (before (ltb 0 partial)))
+    (λ (f : ltb lines lastNumber ≡ false). rw (f, le-leb lastNumber lines (ltb-false lines lastNumber f)) (behind (ltb 0 partial)))
+    (true-or-false (ltb lines lastNumber))
+  where
+    before : (some : Bool) → false || (false && some) ≡ ltb (cond (true && some) (lines + 1) lines) (lines + 0 + cond some 1 0)
+    before true = sym (le-ltb (lines + 1) (lines + 0 + 1) (omega arith))
+    before false = sym (le-ltb lines (lines + 0 + 0) (omega arith))
+
+    behind : (some : Bool) → false || (true && some) ≡ ltb (cond (false && some) (lines + 1) lines) (lines + 0 + cond some 1 0)
+    behind true = sym (lt-ltb lines (lines + 0 + 1) (omega arith))
+    behind false = sym (le-ltb lines (lines + 0 + 0) (omega arith))
+
+more-over : (k lines partial : ℕ) → lastNumber ≤ lines → MoreLines (suc k) lines partial
+more-over k lines partial h =
+    rw (lt-ltb 0 (suc k) (omega arith), le-ltb lines lastNumber h)
+    (sym (lt-ltb lines (lines + suc k + cond (ltb 0 partial) 1 0) (omega arith)))
+
+more-lines : (over lines partial : ℕ) → (0 < over → lastNumber ≤ lines) → MoreLines over lines partial
+more-lines zero lines partial h = more-none lines partial
+more-lines (suc k) lines partial h = more-over k lines partial (h (omega arith))
+
+pub past-holds : PastHolds
+past-holds = record { all-lines = all-lines; more-lines = more-lines }
