@@ -1,7 +1,7 @@
 // Standard input and output. A call that was interrupted is made again at once, one that would block after a pause; one that
 // fails otherwise ends the stream, and a line on standard error says why. Nothing says which bytes come or go: specs/Streams
 // says what can be said.
-ghost use Rattle.streams.specs.Streams.{ReadBehind, WholeWhenEmpty};
+ghost use Rattle.streams.specs.Streams.{isError, isPassing, saidBy, ReadBehind, WholeWhenEmpty};
 ghost use mathlib.Core.Path.{_≡_};
 ghost use lib.ListN.{length};
 use libc::EAGAIN;
@@ -30,19 +30,44 @@ fn pause() {
     libc::nanosleep(&asked, &mut left);
 }
 
-// Whether the call that failed just now is made again: at once where it was interrupted, after a pause where it would have
-// had to wait. Where it is not, says why.
+fn is_error(error: i32, number: i32) -> bool
+    ensures { λ r. ⌜ r ≡ isError error number ⌝ }
+{
+    (number <= error) & (error <= number)
+}
+
+// Whether a call that failed by this error is made again: it would have had to wait, or was interrupted.
+fn is_passing(error: i32) -> bool
+    ensures { λ r. ⌜ r ≡ isPassing error ⌝ }
+{
+    is_error(error, EAGAIN) | is_error(error, EINTR)
+}
+
+// Whether the call that failed just now is made again, then after a pause where it would have had to wait. Where it is
+// not, says why.
 fn tries_again(stream: &[u8]) -> bool {
     let error = os::errno();
-    if error == EAGAIN {
+    if !is_passing(error) {
+        os::fail(stream);
+        return false;
+    }
+    if is_error(error, EAGAIN) {
         pause();
-        return true;
     }
-    if error == EINTR {
-        return true;
+    true
+}
+
+// What a read says that answered this number and gave so many bytes.
+fn said(answer: isize, bytes: usize) -> Got
+    ensures { λ r. ⌜ r ≡ saidBy answer bytes ⌝ }
+{
+    if answer < 0 {
+        return Got::Failed;
     }
-    os::fail(stream);
-    false
+    if answer <= 0 {
+        return Got::End;
+    }
+    Got::Bytes(bytes)
 }
 
 // Reads once behind the first `from` bytes of the buffer, which stay as they are; it fails where there is no room behind them.
@@ -56,14 +81,11 @@ pub fn read_behind(buffer: &mut [u8], from: usize) -> Got
     while 0 < turns {
         turns -= 1;
         let got = libc::read(STDIN_FILENO, &mut buffer[from..]);
-        if got == 0 {
-            return Got::End;
-        }
-        if got > 0 {
-            return Got::Bytes(io::count(got, &buffer[from..]));
+        if got >= 0 {
+            return said(got, io::count(got, &buffer[from..]));
         }
         if !tries_again(b"ledger: standard input") {
-            return Got::Failed;
+            return said(got, 0);
         }
     }
     Got::Failed

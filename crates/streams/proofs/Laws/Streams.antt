@@ -1,10 +1,10 @@
 -- Laws of specs/Streams: a read that gave bytes, and the turns of a loop that writes. Assumes nothing.
 use mathlib.Core.Path.{_≡_, refl, sym, ap, _∙_}
-use mathlib.Core.Bool.{true, _&&_}
+use mathlib.Core.Bool.{true, false, _&&_}
 use mathlib.Core.List.{List}
-use Prim.Native.Nat.{ℕ, _+_, _-_, _≤_, _<_}
+use Prim.Native.Nat.{ℕ, zero, suc, _+_, _-_, _≤_, _<_}
 use native.Mathlib.Omega.{arith}
-use borrow.Author.Tests.{ltb-true}
+use borrow.Author.Tests.{ltb-true, lt-ltb, le-ltb, le-leb, lt-leb}
 use mir.Facts.{toZ-ofZ}
 use mir.Syntax.{w64}
 use mir.Val.{SFits, toZ, ofZ}
@@ -12,13 +12,33 @@ use lib.Dec.{ltb}
 use borrow.Rule.Slice.PartMut.{midOf, putMid, take-put, same-len-mid}
 use lib.IntN.{ℤ, pos, negsuc}
 use lib.ListN.{length, take, drop, length-take, length-drop}
-use lib.Signed.{ltZ}
+use lib.Signed.{leZ, ltZ}
 use Rattle.common.proofs.Tests.{never, and-halves}
 use Rattle.libc.specs.Io.{Moved}
 use Rattle.io.specs.Counts.{clamped}
 use Rattle.streams.specs.declared.Got.{Got}
-use Rattle.streams.specs.declared.Got.the-variants.{Bytes, End}
-use Rattle.streams.specs.Streams.{Inside, ReadBehind}
+use Rattle.streams.specs.declared.Got.the-variants.{Bytes, End, Failed}
+use Rattle.streams.specs.Streams.{saidBy, Inside, ReadBehind}
+
+-- ---- what a read says, by the number that it answered
+
+module _ (answer : ℤ) (bytes : ℕ) (f : SFits w64 answer) where
+  pub said-failed : ltZ (toZ w64 (ofZ w64 answer)) (pos 0) ≡ true → Failed ≡ saidBy answer bytes
+  said-failed t =
+      let u : ltZ answer (pos 0) ≡ true = rw (toZ-ofZ {w = w64} {z = answer} f) at t in
+      rw u
+
+  pub said-end : ltZ (toZ w64 (ofZ w64 answer)) (pos 0) ≡ false → leZ (toZ w64 (ofZ w64 answer)) (pos 0) ≡ true → End ≡ saidBy answer bytes
+  said-end t e =
+      let u : ltZ answer (pos 0) ≡ false = rw (toZ-ofZ {w = w64} {z = answer} f) at t in
+      let v : leZ answer (pos 0) ≡ true = rw (toZ-ofZ {w = w64} {z = answer} f) at e in
+      rw (u, v)
+
+  pub said-bytes : ltZ (toZ w64 (ofZ w64 answer)) (pos 0) ≡ false → leZ (toZ w64 (ofZ w64 answer)) (pos 0) ≡ false → Bytes bytes ≡ saidBy answer bytes
+  said-bytes t e =
+      let u : ltZ answer (pos 0) ≡ false = rw (toZ-ofZ {w = w64} {z = answer} f) at t in
+      let v : leZ answer (pos 0) ≡ false = rw (toZ-ofZ {w = w64} {z = answer} f) at e in
+      rw (u, v)
 
 -- ---- a read
 
@@ -74,6 +94,41 @@ bytes-read from n got buffer now buffer' h d d' f m t e =
     let same : long' ≡ long = omega (arith, lent, behind-length from buffer' (omega (arith, h, d' .long))) in
     let s = some-of long n got m (rw is at t) (rw (← same) (rw is at e)) in
     record { front = d' .front; inside = record { some = s .0; inside = omega (arith, s .1, lent) } }
+
+some-said : (k n : ℕ) → saidBy (pos (suc k)) n ≡ Bytes n
+some-said k n = rw (le-ltb (suc k) 0 (omega arith), lt-leb (suc k) 0 (omega arith))
+
+-- what a read says that did not fail
+pub given-read : (from n : ℕ) (got : ℤ) (buffer now buffer' : List ℕ) (r : Got)
+    → from < length buffer
+    → Held from buffer now
+    → Held from buffer buffer'
+    → SFits w64 got
+    → Moved (length (midOf from (length now - from) now)) got
+    → leZ (pos 0) (toZ w64 (ofZ w64 got)) ≡ true
+    → n ≡ clamped (toZ w64 (ofZ w64 got)) (length (midOf from (length buffer' - from) buffer'))
+    → r ≡ saidBy (toZ w64 (ofZ w64 got)) n
+    → ReadBehind from buffer r buffer'
+given-read from n got buffer now buffer' r h d d' f m t e s =
+    let is : toZ w64 (ofZ w64 got) ≡ got = toZ-ofZ {w = w64} {z = got} f in
+    by-answer got f m is (rw is at t) e (rw is at s)
+  where
+    by-answer : (got : ℤ) → SFits w64 got → Moved (length (midOf from (length now - from) now)) got → toZ w64 (ofZ w64 got) ≡ got → leZ (pos 0) got ≡ true
+        → n ≡ clamped (toZ w64 (ofZ w64 got)) (length (midOf from (length buffer' - from) buffer'))
+        → r ≡ saidBy got n
+        → ReadBehind from buffer r buffer'
+    by-answer (pos zero) f m is t e s = rw s (end-read from buffer buffer' h d')
+    by-answer (pos (suc k)) f m is t e s = rw (s ∙ some-said k n) (bytes-read from n (pos (suc k)) buffer now buffer' h d d' f m (rw is (lt-ltb 0 (suc k) (omega arith))) e)
+    by-answer (negsuc k) f m is t e s = absurd (never t refl)
+
+-- what a read says that failed
+pub failed-read : (from : ℕ) (got : ℤ) (buffer buffer' : List ℕ) (r : Got)
+    → Held from buffer buffer'
+    → leZ (pos 0) got ≡ false
+    → r ≡ saidBy got 0
+    → ReadBehind from buffer r buffer'
+failed-read from (pos k) buffer buffer' r d t s = absurd (never (le-leb 0 k (omega arith)) t)
+failed-read from (negsuc k) buffer buffer' r d t s = rw s (nothing-read from buffer buffer' Failed tt d)
 
 -- ---- a loop that writes
 

@@ -1,5 +1,7 @@
 -- `read_behind` meets its contract. The loop: the buffer has its length still, and its first bytes. Assumes nothing.
-use Rattle.streams.proofs.Laws.Streams.{Held, held-start, held-read, end-read, nothing-read, bytes-read}
+use Rattle.streams.proofs.Laws.Streams.{Held, held-start, held-read, given-read, failed-read}
+use mir.Syntax.{w64}
+use mir.Val.{toZ, ofZ}
 use borrow.Author.Needs.{needs}
 use Rattle.streams.proofs.read_behind.Statement.{statement}
 use Rattle.streams.proofs.read_behind.Tie as tie
@@ -31,14 +33,6 @@ part-read-end c = search needs
 read-requires : tie.Need-read-requires Inv-loop μ-loop
 read-requires c κs = search needs
 
-same-length : tie.Need-same-length Inv-loop μ-loop
-same-length c = search needs
-
-returns-2 : tie.Need-returns-2 Inv-loop μ-loop
-returns-2 c =
-    let held = held-read (c .before .before .before .before .before .before .before .before .before .args .from) (c .before .before .before .before .before .before .before .before .before .args .buffer .now) (c .before .before .before .before .before .before .loop .buffer) (c .before .before .before .read .last .1 .0) (c .before .before .before .before .before .before .before .if1 .left) (c .before .before .before .before .before .before .loop .inv) (c .before .before .before .read .kept .1 .0) in
-    end-read _ _ _ (c .before .before .before .before .before .before .before .if1 .left) held
-
 sub-count : tie.Need-sub-count Inv-loop μ-loop
 sub-count c = search needs
 
@@ -51,13 +45,16 @@ part-count-end c = search needs
 count-requires : tie.Need-count-requires Inv-loop μ-loop
 count-requires c κs = search needs
 
-same-length-2 : tie.Need-same-length-2 Inv-loop μ-loop
-same-length-2 c = search needs
+said-requires : tie.Need-said-requires Inv-loop μ-loop
+said-requires c κs = search needs
 
-returns-3 : tie.Need-returns-3 Inv-loop μ-loop
-returns-3 c =
+same-length : tie.Need-same-length Inv-loop μ-loop
+same-length c = search needs
+
+returns-2 : tie.Need-returns-2 Inv-loop μ-loop
+returns-2 c =
     let held = held-read (c .before .before .before .before .before .before .before .before .before .before .before .before .before .args .from) (c .before .before .before .before .before .before .before .before .before .before .before .before .before .args .buffer .now) (c .before .before .before .before .before .before .before .before .before .before .loop .buffer) (c .before .before .before .before .before .before .before .read .last .1 .0) (c .before .before .before .before .before .before .before .before .before .before .before .if1 .left) (c .before .before .before .before .before .before .before .before .before .before .loop .inv) (c .before .before .before .before .before .before .before .read .kept .1 .0) in
-    bytes-read _ _ (c .before .before .before .before .before .before .before .read .result) _ _ _ (c .before .before .before .before .before .before .before .before .before .before .before .if1 .left) (c .before .before .before .before .before .before .before .before .before .before .loop .inv) held (record { sfits = c .before .before .before .before .before .before .before .read .ok }) (c .before .before .before .before .before .before .before .read .ensures) (c .before .before .before .if3 .taken) (c .count .ensures .1)
+    given-read _ _ (c .before .before .before .before .before .before .before .read .result) _ _ _ _ (c .before .before .before .before .before .before .before .before .before .before .before .if1 .left) (c .before .before .before .before .before .before .before .before .before .before .loop .inv) held (record { sfits = c .before .before .before .before .before .before .before .read .ok }) (c .before .before .before .before .before .before .before .read .ensures) (c .before .before .before .before .if2 .taken) (c .before .count .ensures .1) (c .said .ensures)
 
 slice-aggregate-tries-again : tie.Need-slice-aggregate-tries-again Inv-loop μ-loop
 slice-aggregate-tries-again c = search needs
@@ -65,27 +62,28 @@ slice-aggregate-tries-again c = search needs
 tries-again-requires : tie.Need-tries-again-requires Inv-loop μ-loop
 tries-again-requires c κs = search needs
 
-same-length-3 : tie.Need-same-length-3 Inv-loop μ-loop
-same-length-3 c = search needs
+said-requires-2 : tie.Need-said-requires-2 Inv-loop μ-loop
+said-requires-2 c κs = search needs
 
-returns-4 : tie.Need-returns-4 Inv-loop μ-loop
-returns-4 c =
+same-length-2 : tie.Need-same-length-2 Inv-loop μ-loop
+same-length-2 c = search needs
+
+returns-3 : tie.Need-returns-3 Inv-loop μ-loop
+returns-3 c =
     let held = held-read (c .before .before .before .before .before .before .before .before .before .before .before .before .before .args .from) (c .before .before .before .before .before .before .before .before .before .before .before .before .before .args .buffer .now) (c .before .before .before .before .before .before .before .before .before .before .loop .buffer) (c .before .before .before .before .before .before .before .read .last .1 .0) (c .before .before .before .before .before .before .before .before .before .before .before .if1 .left) (c .before .before .before .before .before .before .before .before .before .before .loop .inv) (c .before .before .before .before .before .before .before .read .kept .1 .0) in
-    nothing-read _ _ _ _ tt held
+    failed-read _ (toZ w64 (ofZ w64 (c .before .before .before .before .before .before .before .read .result))) _ _ _ held (c .before .before .before .before .if2 .left) (c .said2 .ensures)
 
 loop-less : tie.Need-loop-less Inv-loop μ-loop
 loop-less c = search needs
 
 loop-again : tie.Need-loop-again Inv-loop μ-loop
-loop-again c =
-    let held = held-read (c .before .before .before .before .before .before .before .before .before .before .before .before .before .args .from) (c .before .before .before .before .before .before .before .before .before .before .before .before .before .args .buffer .now) (c .before .before .before .before .before .before .before .before .before .before .loop .buffer) (c .before .before .before .before .before .before .before .read .last .1 .0) (c .before .before .before .before .before .before .before .before .before .before .before .if1 .left) (c .before .before .before .before .before .before .before .before .before .before .loop .inv) (c .before .before .before .before .before .before .before .read .kept .1 .0) in
-    held
+loop-again c = held-read (c .before .before .before .before .before .before .before .before .before .before .before .before .args .from) (c .before .before .before .before .before .before .before .before .before .before .before .before .args .buffer .now) (c .before .before .before .before .before .before .before .before .before .loop .buffer) (c .before .before .before .before .before .before .read .last .1 .0) (c .before .before .before .before .before .before .before .before .before .before .if1 .left) (c .before .before .before .before .before .before .before .before .before .loop .inv) (c .before .before .before .before .before .before .read .kept .1 .0)
 
-same-length-4 : tie.Need-same-length-4 Inv-loop μ-loop
-same-length-4 c = search needs
+same-length-3 : tie.Need-same-length-3 Inv-loop μ-loop
+same-length-3 c = search needs
 
-returns-5 : tie.Need-returns-5 Inv-loop μ-loop
-returns-5 c = search needs
+returns-4 : tie.Need-returns-4 Inv-loop μ-loop
+returns-4 c = search needs
 
 pub read-behind-spec : {M : Type 1} → statement M
 read-behind-spec =
@@ -100,19 +98,19 @@ read-behind-spec =
     part-read-start
     part-read-end
     read-requires
-    same-length
-    returns-2
     sub-count
     part-count-start
     part-count-end
     count-requires
-    same-length-2
-    returns-3
+    said-requires
+    same-length
+    returns-2
     slice-aggregate-tries-again
     tries-again-requires
-    same-length-3
-    returns-4
+    said-requires-2
+    same-length-2
+    returns-3
     loop-less
     loop-again
-    same-length-4
-    returns-5)
+    same-length-3
+    returns-4)
