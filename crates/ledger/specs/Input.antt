@@ -1,9 +1,9 @@
 -- The program's input. Nothing says which bytes `read` gives; what is said is that there are bytes of which the run of
 -- crates/run/specs/Run makes what the program hands on. Assumes nothing.
 use mathlib.Core.Path.{_≡_}
-use mathlib.Core.Bool.{Bool}
+use mathlib.Core.Bool.{Bool, true, false}
 use mathlib.Core.List.{List}
-use Prim.Native.Nat.{ℕ, _*_, _≤_, _<_}
+use Prim.Native.Nat.{ℕ, _+_, _*_, _≤_, _<_}
 use lib.ListN.{length, take}
 use Rattle.digits.specs.Field.{pasted}
 use Rattle.tables.specs.Ledger.{Ledger}
@@ -11,9 +11,27 @@ use Rattle.report.specs.Layout.{answerLength}
 use Rattle.run.specs.Run.{Run, runAt, takeText}
 use Rattle.listing.specs.Past.{linesPast, goesPast}
 use Rattle.text.specs.Text.{pieceRun, pieceOutput}
+use Rattle.streams.specs.declared.Got.{Got}
+use Rattle.streams.specs.declared.Got.the-variants.{Bytes, End, Failed}
 use Rattle.ledger.specs.declared.Stage.{Stage}
 
--- ---- a read: bytes were put behind the first `partial`, which are as they were; now there are `filled`
+-- ---- a read behind the first `partial` bytes: how many there are then, and whether it did not fail, by what it said
+
+abbrev pub filledAfter : ℕ → Got → ℕ
+filledAfter partial (Bytes n) = partial + n
+filledAfter partial End = partial
+filledAfter partial Failed = partial
+
+abbrev pub didNotFail : Got → Bool
+didNotFail (Bytes n) = true
+didNotFail End = true
+didNotFail Failed = false
+
+pub record FilledBy (partial : ℕ) (got : Got) (bytes : ℕ) (whole : Bool) : Type 0 where
+  pub bytes-are : bytes ≡ filledAfter partial got
+  pub whole-is : whole ≡ didNotFail got
+
+-- bytes were put behind the first `partial`, which are as they were; now there are `filled`
 
 pub record Behind (partial : ℕ) (text : List ℕ) (filled : ℕ) (text' : List ℕ) : Type 0 where
   pub front : take partial text' ≡ take partial text
@@ -39,6 +57,7 @@ pub record Turned (l : Ledger) (p : Stage) (filled : ℕ) (text out : List ℕ) 
   pub written-is : r .written ≡ length (pieceOutput l (p .lines) filled text)
   pub out-is : out' ≡ pasted 0 (pieceOutput l (p .lines) filled text) out
   pub past-is : r .beyond ≡ passes (p .lines) (take filled text) (pieceRun l (p .lines) filled text)
+  pub whole-is : r .whole ≡ p .whole
 
 -- ---- the whole input: some bytes take the run from the start to what is handed on
 

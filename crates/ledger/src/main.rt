@@ -10,7 +10,7 @@ ghost use lib.ListN.{length};
 ghost use Rattle.tables.specs.Ledger.{ledger};
 ghost use Rattle.report.specs.Layout.{answerLength};
 ghost use Rattle.run.specs.Run.{runAt, clippedLength};
-ghost use Rattle.ledger.specs.Input.{Behind, Given, Turned, InputTaken};
+ghost use Rattle.ledger.specs.Input.{filledAfter, FilledBy, Behind, Given, Turned, InputTaken};
 ghost use Rattle.ledger.specs.Program.{Begins, LastRoom, Finished, Shown};
 use libc::STDERR_FILENO;
 use listing::ending::end_text;
@@ -55,12 +55,12 @@ struct Filled {
     whole: bool,
 }
 
-// Reads once behind the partial line; no more bytes than before are there at the end of the input and where the read failed.
-fn fill(text: &mut [u8], partial: usize) -> Filled
-    requires { ⌜ partial < length (now text) ⌝ }
-    ensures { λ r. ⌜ Behind partial (now (text .entry)) (r .bytes) (now (text .exit)) ⌝ }
+// What a read behind the partial line leaves: no more bytes than before at the end of the input and where the read failed.
+fn filled_by(partial: usize, got: Got) -> Filled
+    requires { ⌜ filledAfter partial got < 18446744073709551616 ⌝ }
+    ensures { λ r. ⌜ FilledBy partial got (r .bytes) (r .whole) ⌝ }
 {
-    match read_behind(text, partial) {
+    match got {
         Got::Bytes(n) => Filled {
             bytes: partial + n,
             whole: true,
@@ -74,6 +74,15 @@ fn fill(text: &mut [u8], partial: usize) -> Filled
             whole: false,
         },
     }
+}
+
+// Reads once behind the partial line.
+fn fill(text: &mut [u8], partial: usize) -> Filled
+    requires { ⌜ partial < length (now text) ⌝ }
+    ensures { λ r. ⌜ Behind partial (now (text .entry)) (r .bytes) (now (text .exit)) ⌝ }
+{
+    let got = read_behind(text, partial);
+    filled_by(partial, got)
 }
 
 // Writes the first bytes of a buffer if the run is whole, and says whether it still is.

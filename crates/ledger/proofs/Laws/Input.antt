@@ -21,12 +21,12 @@ use Rattle.run.proofs.Laws.Lines.{line-by-line}
 use Rattle.listing.specs.Past.{linesPast, goesPast}
 use Rattle.listing.proofs.Laws.Past.{past-next}
 use Rattle.streams.specs.declared.Got.{Got}
-use Rattle.streams.specs.declared.Got.the-variants.{Bytes}
+use Rattle.streams.specs.declared.Got.the-variants.{Bytes, End, Failed}
 use Rattle.streams.specs.Streams.{Inside, ReadBehind}
 use Rattle.text.specs.declared.text.Piece.{Piece}
 use Rattle.text.specs.Text.{pieceFits, pieceRun, pieceOutput, PieceTaken}
 use Rattle.ledger.specs.declared.Stage.{Stage}
-use Rattle.ledger.specs.Input.{Behind, Given, passes, Turned, InputTaken}
+use Rattle.ledger.specs.Input.{filledAfter, didNotFail, FilledBy, Behind, Given, passes, Turned, InputTaken}
 
 -- ---- bytes at the front of others
 
@@ -41,14 +41,20 @@ same-room n m e h = omega (arith, e, h)
 
 -- ---- a read
 
--- bytes, or none
-pub fill-some : (partial n : ℕ) (text : List ℕ) (got : Got) (text' : List ℕ) → got ≡ Bytes n → ReadBehind partial text got text' → Behind partial text (partial + n) text'
-fill-some partial n text got text' e r =
-    let i : Inside partial (length text') (Bytes n) = subst (Inside partial (length text')) e (r .inside) in
-    record { front = r .front; onward = omega arith; inside = i .inside }
+pub fill-fits : (partial n long : ℕ) (got : Got) → got ≡ Bytes n → filledAfter partial got < long → partial + n < long
+fill-fits partial n long got e h = subst (λ (g : Got). filledAfter partial g < long) e h
 
-pub fill-none : (partial : ℕ) (text : List ℕ) (got : Got) (text' : List ℕ) → partial < length text → length text' ≡ length text → ReadBehind partial text got text' → Behind partial text partial text'
-fill-none partial text got text' h e r = record { front = r .front; onward = omega arith; inside = omega (arith, h, e) }
+pub fill-some : (partial n : ℕ) (got : Got) → got ≡ Bytes n → FilledBy partial got (partial + n) true
+fill-some partial n got e = record { bytes-are = sym (ap (filledAfter partial) e); whole-is = sym (ap didNotFail e) }
+
+module _ (partial : ℕ) (text text' : List ℕ) (h : partial < length text) (e : length text' ≡ length text) where
+  pub read-fills : (got : Got) → ReadBehind partial text got text' → Behind partial text (filledAfter partial got) text'
+  read-fills (Bytes n) r = record { front = r .front; onward = omega arith; inside = r .inside .inside }
+  read-fills End r = record { front = r .front; onward = omega arith; inside = omega (arith, h, e) }
+  read-fills Failed r = record { front = r .front; onward = omega arith; inside = omega (arith, h, e) }
+
+  pub fills : (got : Got) (bytes : ℕ) (whole : Bool) → ReadBehind partial text got text' → FilledBy partial got bytes whole → Behind partial text bytes text'
+  fills got bytes whole r f = rw (f .bytes-are) (read-fills got r)
 
 -- ---- a turn
 
@@ -92,11 +98,11 @@ module _ (l : Ledger) (p : Stage) (filled : ℕ) (text out : List ℕ) where
           ∙ ap (λ (n : ℕ). goesPast (linesPast (p .lines) (take filled text)) n (piece .partial)) (rw fits at (t .advanced .lines-are))
           ∙ ap (goesPast (linesPast (p .lines) (take filled text)) (s .lines)) partial-is
 
-      pub turned-made : (over : ℕ) (past whole : Bool)
+      pub turned-made : (over : ℕ) (past : Bool)
           → over ≡ linesPast (p .lines) (take filled text)
           → past ≡ goesPast over (piece .lines) (piece .partial)
-          → Turned l p filled text out (stageOf piece past whole) l' text' out'
-      turned-made over past whole o e =
+          → Turned l p filled text out (stageOf piece past (p .whole)) l' text' out'
+      turned-made over past o e =
           record {
             run-is = run-is;
             partial-is = partial-is;
@@ -104,6 +110,7 @@ module _ (l : Ledger) (p : Stage) (filled : ℕ) (text out : List ℕ) where
             written-is = rw fits at (t .advanced .written-is);
             out-is = rw fits at (t .advanced .out-is);
             past-is = past-is over past o e;
+            whole-is = refl;
           }
 
   module _ (r : Stage) (l' : Ledger) (text' out' : List ℕ) (t : Turned l p filled text out r l' text' out') where
