@@ -107,8 +107,9 @@ headOf l = record {
 
 -- ---- what was written is read: the cells as they stand one after the other, and what is read of them
 
-abbrev pub eventCells : Event → List ℕ
-eventCells e =
+-- the fields of an event in their order
+abbrev pub fieldCells : Event → List ℕ
+fieldCells e =
     e .kind ∷ e .date ∷ e .mandate ∷ e .a ∷ e .b ∷ e .c ∷ e .amount ∷ e .second ∷ e .code ∷ []
 
 abbrev pub withWritten : ℕ → Counts → Counts
@@ -120,4 +121,4 @@ pub record ReadsBack : Type 0 where
   pub filled : (h : Header) (c : Counts) → filledIn (stateCells h c) ≡ c .partial
   pub written : (h : Header) (c : Counts) (n : ℕ) → writtenState n (stateCells h c) ≡ stateCells h (withWritten n c)
   pub figure : (total old z : ℤ) → figureCents (Figure z) (total ∷ old ∷ []) ≡ total ∷ z ∷ []
-  pub event : (e : Event) → cellsEvent (eventCells e) ≡ e
+  pub event : (e : Event) → cellsEvent (fieldCells e) ≡ e

@@ -23,7 +23,9 @@ goesPast over lines partial = ltb 0 over || (leb lastNumber lines && ltb 0 parti
 pub record PastHolds : Type 0 where
   -- a line of a text is answered or past the last
   pub all-lines : (n : ℕ) (text : List ℕ) → length (answeredLines n text) + linesPast n text ≡ length (linesFrom [] text)
-  -- there is input past the last exactly where there are more lines, a partial one among them, than are answered at the end of the input
+  -- where one is past the last, the last was answered
+  pub last-answered : (n : ℕ) (text : List ℕ) → 0 < linesPast n text → lastNumber ≤ n + length (answeredLines n text)
+  -- there is then input past the last exactly where there are more lines, a partial one among them, than are answered at the end of the input
   pub more-lines :
       (over lines partial : ℕ)
       → (0 < over → lastNumber ≤ lines)

@@ -37,6 +37,6 @@ pub record ReadBehind (from : ℕ) (buffer : List ℕ) (r : Got) (buffer' : List
   pub front : take from buffer' ≡ take from buffer
   pub inside : Inside from (length buffer') r
 
--- no bytes are written whole
+-- where there is nothing to write, all of it is written
 abbrev pub WholeWhenEmpty : ℕ → Bool → Type 0
 WholeWhenEmpty bytes r = bytes ≡ 0 → r ≡ true

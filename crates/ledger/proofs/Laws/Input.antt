@@ -22,7 +22,7 @@ use Rattle.listing.specs.Past.{linesPast, goesPast}
 use Rattle.listing.proofs.Laws.Past.{past-next}
 use Rattle.streams.specs.declared.Got.{Got}
 use Rattle.streams.specs.declared.Got.the-variants.{Bytes, End, Failed}
-use Rattle.streams.specs.Streams.{Inside, ReadBehind}
+use Rattle.streams.specs.Streams.{ReadBehind}
 use Rattle.text.specs.declared.text.Piece.{Piece}
 use Rattle.text.specs.Text.{pieceFits, pieceRun, pieceOutput, PieceTaken}
 use Rattle.ledger.specs.declared.Stage.{Stage}
@@ -114,11 +114,7 @@ module _ (l : Ledger) (p : Stage) (filled : ℕ) (text out : List ℕ) where
           }
 
   module _ (r : Stage) (l' : Ledger) (text' out' : List ℕ) (t : Turned l p filled text out r l' text' out') where
-    -- the partial line and the answers are where they are said to be
-    pub turned-partial : r .partial ≤ length text'
-    turned-partial =
-        omega (arith, t .partial-is, ap length (t .text-is), front-length (pieceRun l (p .lines) filled text .partial) text)
-
+    -- the answers are where they are said to be
     pub turned-output : r .written ≤ length out'
     turned-output = omega (arith, t .written-is, ap length (t .out-is), front-length (pieceOutput l (p .lines) filled text) out)
 

@@ -1,7 +1,5 @@
 -- `send` meets its contract: the bytes that are written are there. Assumes nothing.
-use mathlib.Core.Path.{_≡_, sym, refl, ap, _∙_}
-use mathlib.Core.Bool.{Bool, false, not}
-use lib.ListN.{length, take}
+use mathlib.Core.Path.{sym, refl, _∙_}
 use lib.Seq.{length-take-le}
 use borrow.Author.Tests.{not-false, not-true}
 use Rattle.common.proofs.Tests.{never}

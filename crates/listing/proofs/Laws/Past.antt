@@ -8,7 +8,7 @@ use Prim.Native.Nat.{ℕ, zero, suc, _+_, _-_, _≤_, _<_}
 use native.Mathlib.Nat.{zero-add}
 use native.Mathlib.Omega.{arith}
 use borrow.Author.Tests.{ne-eqb, lt-ltb, le-ltb, le-leb, lt-leb, ltb-true, ltb-false}
-use lib.Dec.{eqb, ltb, leb}
+use lib.Dec.{eqb, ltb}
 use lib.ListN.{length, take, drop, getD, length-take, length-drop}
 use lib.Seq.{drop-cons, drop-length}
 use Rattle.common.proofs.Tests.{true-or-false}
@@ -151,6 +151,11 @@ all-lines : (n : ℕ) (text : List ℕ) → length (answeredLines n text) + line
 unfolding answeredLines
 all-lines n text = omega (arith, length-take (lastNumber - n) (linesFrom [] text), length-drop (lastNumber - n) (linesFrom [] text))
 
+last-answered : (n : ℕ) (text : List ℕ) → 0 < linesPast n text → lastNumber ≤ n + length (answeredLines n text)
+unfolding answeredLines
+last-answered n text h =
+    omega (arith, h, length-take (lastNumber - n) (linesFrom [] text), length-drop (lastNumber - n) (linesFrom [] text))
+
 abbrev MoreLines : ℕ → ℕ → ℕ → Type 0
 MoreLines over lines partial = goesPast over lines partial ≡ ltb (endLines lines partial) (lines + over + cond (ltb 0 partial) 1 0)
 
@@ -180,4 +185,4 @@ more-lines zero lines partial h = more-none lines partial
 more-lines (suc k) lines partial h = more-over k lines partial (h (omega arith))
 
 pub past-holds : PastHolds
-past-holds = record { all-lines = all-lines; more-lines = more-lines }
+past-holds = record { all-lines = all-lines; last-answered = last-answered; more-lines = more-lines }

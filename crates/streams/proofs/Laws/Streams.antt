@@ -1,5 +1,5 @@
 -- Laws of specs/Streams: a read that gave bytes, and the turns of a loop that writes. Assumes nothing.
-use mathlib.Core.Path.{_≡_, refl, sym, ap, _∙_}
+use mathlib.Core.Path.{_≡_, refl, sym, _∙_}
 use mathlib.Core.Bool.{true, false, _&&_}
 use mathlib.Core.List.{List}
 use Prim.Native.Nat.{ℕ, zero, suc, _+_, _-_, _≤_, _<_}
@@ -46,9 +46,6 @@ module _ (answer : ℤ) (bytes : ℕ) (f : SFits w64 answer) where
 pub record Held (from : ℕ) (buffer buffer' : List ℕ) : Type 0 where
   pub long : length buffer' ≡ length buffer
   pub front : take from buffer' ≡ take from buffer
-
-pub held-start : (from : ℕ) (buffer : List ℕ) → Held from buffer buffer
-held-start from buffer = record { long = refl; front = refl }
 
 -- the part behind them was lent and came back
 pub held-read : (from : ℕ) (buffer now part : List ℕ)

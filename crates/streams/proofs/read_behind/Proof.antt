@@ -1,5 +1,5 @@
 -- `read_behind` meets its contract. The loop: the buffer has its length still, and its first bytes. Assumes nothing.
-use Rattle.streams.proofs.Laws.Streams.{Held, held-start, held-read, given-read, failed-read}
+use Rattle.streams.proofs.Laws.Streams.{Held, held-read, given-read, failed-read}
 use mir.Syntax.{w64}
 use mir.Val.{toZ, ofZ}
 use borrow.Author.Needs.{needs}
