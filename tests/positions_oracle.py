@@ -1,10 +1,10 @@
 #!/usr/bin/env python3
-"""What crates/positions_cases must write, worked out from document 01 with no look at the crate `positions`.
+"""What crates/positions_cases must write, worked out from documents 01 and 02 with no look at the crate `positions`.
 
 Run from the repository's root: tests/positions_oracle.py > crates/positions_cases/stdout
 The inputs are taken from the program's text; compensation is worked out with exact fractions, a table of positions is a dictionary.
-Three limits are the crate's and not document 01's: 999 days, the compensation of the largest amount, rate and days, and 4 * 10^18 on
-either side for the numbers that a posting adds."""
+Three limits are the crate's and not document 01's: 999 days, which document 02 has for the products, the compensation of the largest
+amount, rate and days, and 4 * 10^18 on either side for the numbers that a posting adds."""
 import math
 import re
 from fractions import Fraction
@@ -21,6 +21,13 @@ def compensation(amount, rate, days):
 def compensated(amount, rate, days):
     inside = 1 <= amount <= AMOUNT and rate <= RATE and days <= DAYS
     return compensation(amount, rate, days) if inside else "outside"
+
+
+def products(amount, rate, days):
+    """Days times rate, and that times the amount, or 5: document 02, (g)."""
+    sound = [0 <= days <= DAYS and 0 <= rate <= RATE, 1 <= amount <= AMOUNT]
+    return " ".join(f"product {math.prod(factors)}" if ok else "refused 5"
+                    for ok, factors in ((sound[0], (days, rate)), (all(sound), (days, rate, amount))))
 
 
 def posted(table, moves):
@@ -65,6 +72,9 @@ def main():
         text = file.read()
     for case in zip(column(text, "AMOUNTS"), column(text, "RATES"), column(text, "DAYS")):
         print(*case, compensated(*case))
+        print(*case, products(*case))
+    for numbers in re.findall(r"show_products\(([\d, ]+)\);", text):
+        print(*integers(numbers), products(*integers(numbers)))
     table = {entry: 0 for entry in range(1, 5)}
     for call, numbers in re.findall(r"show\((post|transfer)\(&mut t, ([-\d, ]+)\), &t\);", text):
         print(posted(table, moves(call, integers(numbers))), *table.values())

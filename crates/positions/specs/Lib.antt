@@ -1,6 +1,7 @@
--- Document 01, "Postings", in definitions; read in this order.
+-- Document 01, "Postings", and document 02, (g), in definitions; read in this order.
 pub mod Positions  -- a table of signed positions: a posting, a transfer, the sum, the limit
 pub mod Postings  -- what a settle, its opposite and a refund post
 pub mod Compensation  -- K, and how it is rounded
+pub mod Products  -- days times rate, and that times the amount
 pub mod Limits  -- how far the postings of all rows can carry a position
 pub mod Answers  -- what the calls answer, and what they leave in the table

@@ -4,6 +4,8 @@ pub mod amounts;
 pub mod compensation;
 pub mod posting;
 
+use refusals::Refusal;
+
 // The largest compensation, in cents.
 pub const COMPENSATION_LIMIT: u64 = 277472249997;
 
@@ -18,6 +20,12 @@ pub enum PostAnswer {
 pub enum CompensationAnswer {
     Cents(u64),
     OutsideLimits,
+}
+
+// Days times rate, or that times an amount; or a number outside its limits.
+pub enum ProductAnswer {
+    Product(u64),
+    Refused(Refusal),
 }
 
 // The amounts that one event posts: to the debtor, the creditor, the bank of each and total compensation.

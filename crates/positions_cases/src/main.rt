@@ -1,14 +1,18 @@
-// Compensation for a spread of cases, postings and transfers on a table of four, and the amounts of an event.
+// Compensation and its two products for a spread of cases, postings and transfers on a table of four, the amounts of an event.
 // The figures in stdout were worked out apart from this code, those of compensation with exact fractions.
 use positions::CompensationAnswer;
 use positions::PostAnswer;
 use positions::PostingsAnswer;
+use positions::ProductAnswer;
 use positions::amounts::refunded;
 use positions::amounts::reversed;
 use positions::amounts::settlement;
 use positions::compensation::compensation;
+use positions::compensation::rate_days;
+use positions::compensation::rate_days_amount;
 use positions::posting::post;
 use positions::posting::transfer;
+use refusals::number_of;
 
 // Amount, rate and days of each case: the worked cases of document 01, the limits, numbers chosen at random, exact halves.
 const AMOUNTS: [u64; 60] = [
@@ -210,13 +214,17 @@ fn print_signed(z: i64) {
     return;
 }
 
-fn show_compensation(amount: u64, rate: u64, days: u64) {
+fn show_values(amount: u64, rate: u64, days: u64) {
     io::print_decimal(1, amount);
     io::write_all(1, b" ");
     io::print_decimal(1, rate);
     io::write_all(1, b" ");
     io::print_decimal(1, days);
     io::write_all(1, b" ");
+}
+
+fn show_compensation(amount: u64, rate: u64, days: u64) {
+    show_values(amount, rate, days);
     match compensation(amount, rate, days) {
         CompensationAnswer::Cents(k) => {
             io::print_decimal(1, k);
@@ -228,10 +236,37 @@ fn show_compensation(amount: u64, rate: u64, days: u64) {
     io::write_all(1, b"\n");
 }
 
+fn show_product(answer: ProductAnswer) {
+    match answer {
+        ProductAnswer::Product(p) => {
+            io::write_all(1, b"product ");
+            io::print_decimal(1, p);
+        }
+        ProductAnswer::Refused(r) => {
+            io::write_all(1, b"refused ");
+            io::print_decimal(1, number_of(r));
+        }
+    }
+}
+
+// Both products, that of days and rate first.
+fn show_products(amount: u64, rate: u64, days: u64) {
+    show_values(amount, rate, days);
+    show_product(rate_days(days, rate));
+    io::write_all(1, b" ");
+    show_product(rate_days_amount(days, rate, amount));
+    io::write_all(1, b"\n");
+}
+
+fn show_case(amount: u64, rate: u64, days: u64) {
+    show_compensation(amount, rate, days);
+    show_products(amount, rate, days);
+}
+
 fn show_cases() {
     let mut i: usize = 0;
     while i < 60 {
-        show_compensation(AMOUNTS[i], RATES[i], DAYS[i]);
+        show_case(AMOUNTS[i], RATES[i], DAYS[i]);
         i += 1;
     }
 }
@@ -305,8 +340,24 @@ fn show_amounts(answer: PostingsAnswer) {
     io::write_all(1, b"\n");
 }
 
+// Each number past its limit alone, amounts about the most that a collect will take, products that would wrap to 0.
+fn show_limits() {
+    show_products(1, 0, 0);
+    show_products(1, 9999, 1000);
+    show_products(1, 10000, 999);
+    show_products(5000000, 360, 1);
+    show_products(5000001, 360, 1);
+    show_products(100000000000, 9999, 999);
+    show_products(18446744073709551615, 1, 1);
+    show_products(1, 18446744073709551615, 1);
+    show_products(1, 1, 18446744073709551615);
+    show_products(1, 4294967296, 4294967296);
+    show_products(9223372036854775808, 2, 1);
+}
+
 fn main() {
     show_cases();
+    show_limits();
     show_postings();
     show_amounts(settlement(10000));
     show_amounts(reversed(10000));

@@ -14,26 +14,26 @@ abbrev μ-loop : tie.MeasureT-loop
 loop-holds : tie.Need-loop-holds Inv-loop μ-loop
 loop-holds c = search needs
 
-mul-show-compensation : tie.Need-mul-show-compensation Inv-loop μ-loop
-mul-show-compensation c = search needs
+mul-show-case : tie.Need-mul-show-case Inv-loop μ-loop
+mul-show-case c = search needs
 
-array-read-show-compensation : tie.Need-array-read-show-compensation Inv-loop μ-loop
-array-read-show-compensation c = search needs
+array-read-show-case : tie.Need-array-read-show-case Inv-loop μ-loop
+array-read-show-case c = search needs
 
-mul-show-compensation-2 : tie.Need-mul-show-compensation-2 Inv-loop μ-loop
-mul-show-compensation-2 c = search needs
+mul-show-case-2 : tie.Need-mul-show-case-2 Inv-loop μ-loop
+mul-show-case-2 c = search needs
 
-array-read-show-compensation-2 : tie.Need-array-read-show-compensation-2 Inv-loop μ-loop
-array-read-show-compensation-2 c = search needs
+array-read-show-case-2 : tie.Need-array-read-show-case-2 Inv-loop μ-loop
+array-read-show-case-2 c = search needs
 
-mul-show-compensation-3 : tie.Need-mul-show-compensation-3 Inv-loop μ-loop
-mul-show-compensation-3 c = search needs
+mul-show-case-3 : tie.Need-mul-show-case-3 Inv-loop μ-loop
+mul-show-case-3 c = search needs
 
-array-read-show-compensation-3 : tie.Need-array-read-show-compensation-3 Inv-loop μ-loop
-array-read-show-compensation-3 c = search needs
+array-read-show-case-3 : tie.Need-array-read-show-case-3 Inv-loop μ-loop
+array-read-show-case-3 c = search needs
 
-show-compensation-requires : tie.Need-show-compensation-requires Inv-loop μ-loop
-show-compensation-requires c κs = search needs
+show-case-requires : tie.Need-show-case-requires Inv-loop μ-loop
+show-case-requires c κs = search needs
 
 add-i : tie.Need-add-i Inv-loop μ-loop
 add-i c = search needs
@@ -54,13 +54,13 @@ show-cases-spec =
     Inv-loop
     μ-loop
     loop-holds
-    mul-show-compensation
-    array-read-show-compensation
-    mul-show-compensation-2
-    array-read-show-compensation-2
-    mul-show-compensation-3
-    array-read-show-compensation-3
-    show-compensation-requires
+    mul-show-case
+    array-read-show-case
+    mul-show-case-2
+    array-read-show-case-2
+    mul-show-case-3
+    array-read-show-case-3
+    show-case-requires
     add-i
     loop-less
     loop-again
