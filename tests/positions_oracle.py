@@ -3,8 +3,8 @@
 
 Run from the repository's root: tests/positions_oracle.py > crates/positions_cases/stdout
 The inputs are taken from the program's text; compensation is worked out with exact fractions, a table of positions is a dictionary.
-Three limits are the crate's and not document 01's: 999 days, which document 02 has for the products, the compensation of the largest
-amount, rate and days, and 4 * 10^18 on either side for the numbers that a posting adds."""
+Three limits are not document 01's: 999 days (document 02, (g)), the compensation of the largest amount, rate and days, and 4 * 10^18
+on either side for the numbers that a posting adds, the last two being the crate's own."""
 import math
 import re
 from fractions import Fraction
@@ -24,7 +24,7 @@ def compensated(amount, rate, days):
 
 
 def products(amount, rate, days):
-    """Days times rate, and that times the amount, or 5: document 02, (g)."""
+    """The product of days and rate and that of all three, or 5: document 02, (g)."""
     sound = [0 <= days <= DAYS and 0 <= rate <= RATE, 1 <= amount <= AMOUNT]
     return " ".join(f"product {math.prod(factors)}" if ok else "refused 5"
                     for ok, factors in ((sound[0], (days, rate)), (all(sound), (days, rate, amount))))

@@ -1,1 +1,1 @@
-pub mod Laws  -- of positions, postings and compensation, for this crate's proofs and its callers'
+pub mod Laws  -- of positions, postings, compensation and its products, for this crate's proofs and its callers'

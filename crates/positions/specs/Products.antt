@@ -1,5 +1,6 @@
--- Days times rate, and that times the amount. Document 02, (g): compensation is worked in this order, and two calls give the
--- products to whoever checks refunds sorted by day and rate. Assumes nothing.
+-- The products by which a compensation is worked out, the amount being the last factor, and the calls for them. Document 02, (g).
+-- Numbers cannot show in which order they were multiplied: what is held here is each product, and that K comes of the second.
+-- Assumes nothing.
 use mathlib.Core.Path.{_≡_}
 use mathlib.Core.List.{List, [], _∷_}
 use Prim.Native.Nat.{ℕ, _*_}
@@ -23,7 +24,7 @@ rateDaysAmount days rate amount = rateDays days rate * amount
 
 -- ---- what the calls answer
 
--- in the paper's order, with what is said where one fails
+-- in the order of the request, with what is said where one fails
 abbrev pub rateDaysChecks : {A : Type 0} → A → ℕ → ℕ → List (Check A)
 rateDaysChecks bad days rate = check (leb days daysLimit) bad ∷ check (leb rate rateLimit) bad ∷ []
 
@@ -71,10 +72,12 @@ centsOf (Product p) = Cents (halfUp p partsOfCent)
 centsOf (Refused r) = OutsideLimits
 
 pub record Products : Type 0 where
-  -- the order changes no result
+  -- it is the interest in another order
   pub same-interest : (days rate amount : ℕ) → rateDaysAmount days rate amount ≡ interest amount rate days
-  -- the product is given where compensation is worked out and nowhere else, and rounds to it
+  -- it is given where a compensation is, and nowhere else, and rounds to it
   pub same-cents : (days rate amount : ℕ) → centsOf (rateDaysAmountAnswer days rate amount) ≡ compensationOf amount rate days
-  -- the paper's case, 5,000 cents at 360 for 1 day
+  -- for one cent it is that of days and rate alone, given for the same days and rates
+  pub of-one-cent : (days rate : ℕ) → rateDaysAmountAnswer days rate 1 ≡ rateDaysAnswer days rate
+  -- the case of the request: 5,000 cents at 360 for 1 day
   pub worked-first : rateDaysAnswer 1 360 ≡ Product 360
   pub worked-second : rateDaysAmountAnswer 1 360 5000 ≡ Product 1800000

@@ -22,7 +22,7 @@ fn in_limits(amount: u64, rate: u64, days: u64) -> bool
     (1 <= amount) & (amount <= AMOUNT_LIMIT) & (rate <= RATE_LIMIT) & (days <= DAYS_LIMIT)
 }
 
-// The first step of the interest.
+// The first product, of which the interest is made.
 fn days_times_rate(days: u64, rate: u64) -> u64
     requires { ⌜ (days ≤ daysLimit) × (rate ≤ rateLimit) ⌝ }
     ensures { λ r. ⌜ r ≡ rateDays days rate ⌝ }
@@ -30,7 +30,7 @@ fn days_times_rate(days: u64, rate: u64) -> u64
     days * rate
 }
 
-// The interest in parts of a cent: the first step, and that times the amount.
+// The interest in parts of a cent: the first product by the amount.
 fn interest(amount: u64, rate: u64, days: u64) -> u64
     requires { ⌜ InLimits amount rate days ⌝ }
     ensures { λ r. ⌜ r ≡ interestIn amount rate days ⌝ }
@@ -56,7 +56,7 @@ pub fn compensation(amount: u64, rate: u64, days: u64) -> CompensationAnswer
     CompensationAnswer::OutsideLimits
 }
 
-// Days times rate, as the interest has it; refused 5 outside their limits.
+// The product of days and rate, as it goes into the interest; refused 5 outside their limits.
 pub fn rate_days(days: u64, rate: u64) -> ProductAnswer
     ensures { λ r. ⌜ RateDaysCall days rate r ⌝ }
 {
@@ -66,7 +66,7 @@ pub fn rate_days(days: u64, rate: u64) -> ProductAnswer
     ProductAnswer::Refused(Refusal::BadField)
 }
 
-// That times the amount of a row, which is the interest; refused 5 outside their limits.
+// The product of days, rate and the amount of a row, which is the interest; refused 5 outside their limits.
 pub fn rate_days_amount(days: u64, rate: u64, amount: u64) -> ProductAnswer
     ensures { λ r. ⌜ RateDaysAmountCall days rate amount r ⌝ }
 {

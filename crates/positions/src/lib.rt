@@ -1,4 +1,4 @@
-// Signed positions, what an event of money posts to them, and compensation: document 01, "Postings".
+// Signed positions, what an event of money posts to them, and compensation: document 01, "Postings", and document 02, (g).
 // Every public function answers for any input: an enum says where there is nothing to post to, or no value.
 pub mod amounts;
 pub mod compensation;
@@ -22,7 +22,7 @@ pub enum CompensationAnswer {
     OutsideLimits,
 }
 
-// Days times rate, or that times an amount; or a number outside its limits.
+// A product by which a compensation is worked out, or a number outside its limits.
 pub enum ProductAnswer {
     Product(u64),
     Refused(Refusal),

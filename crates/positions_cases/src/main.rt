@@ -340,11 +340,14 @@ fn show_amounts(answer: PostingsAnswer) {
     io::write_all(1, b"\n");
 }
 
-// Each number past its limit alone, amounts about the most that a collect will take, products that would wrap to 0.
+// Products of 0, each number past its limit alone, also where the product would be 0, amounts of a row on both sides of the most that
+// document 02, (a), leaves to a collect, and products that would wrap to 0.
 fn show_limits() {
     show_products(1, 0, 0);
     show_products(1, 9999, 1000);
     show_products(1, 10000, 999);
+    show_products(1, 10000, 0);
+    show_products(1, 0, 1000);
     show_products(5000000, 360, 1);
     show_products(5000001, 360, 1);
     show_products(100000000000, 9999, 999);

@@ -4,15 +4,14 @@ use mathlib.Core.Path.{_≡_, refl, sym, ap, _∙_}
 use mathlib.Core.Bool.{Bool, true, false, cond, _&&_}
 use mathlib.Core.List.{[], _∷_}
 use Prim.Native.Nat.{ℕ, _*_, _≤_}
-use native.Mathlib.Nat.{mul-assoc, mul-comm, mul-le-mul}
+use native.Mathlib.Nat.{mul-assoc, mul-comm, mul-le-mul, mul-one}
 use lib.Dec.{leb}
 use Rattle.common.specs.Checks.{check, judged}
 use Rattle.common.specs.Tests.{allOf}
 use Rattle.refusals.specs.declared.Refusal.the-variants.{BadField}
 use Rattle.positions.specs.declared.ProductAnswer.{ProductAnswer}
 use Rattle.positions.specs.declared.ProductAnswer.the-variants.{Product, Refused}
-use Rattle.positions.specs.declared.CompensationAnswer.the-variants.{Cents, OutsideLimits}
-use Rattle.positions.specs.Compensation.{partsOfCent, interest, halfUp, compensation, amountLimit, rateLimit, daysLimit, inLimits, compensationOf}
+use Rattle.positions.specs.Compensation.{interest, compensation, amountLimit, rateLimit, daysLimit, inLimits, compensationOf}
 use Rattle.positions.specs.Products.{rateDays, rateDaysAmount, rateDaysChecks, rateDaysAmountChecks, rateDaysAnswer, rateDaysAmountAnswer, productNumber, productValue, RateDaysCall, RateDaysAmountCall, centsOf, Products}
 
 -- ---- the products
@@ -52,10 +51,10 @@ judged-four true true true d bad good = refl
 -- ---- the calls
 
 module _ (days rate : ℕ) where
-  abbrev fit : Bool
-  fit = leb days daysLimit && leb rate rateLimit
+  abbrev bothIn : Bool
+  bothIn = leb days daysLimit && leb rate rateLimit
 
-  one-test : {A : Type 0} (bad good : A) → judged (rateDaysChecks bad days rate) good ≡ cond fit good bad
+  one-test : {A : Type 0} (bad good : A) → judged (rateDaysChecks bad days rate) good ≡ cond bothIn good bad
   one-test bad good = judged-two (leb days daysLimit) (leb rate rateLimit) bad good
 
   pub rateDays-call :
@@ -65,8 +64,8 @@ module _ (days rate : ℕ) where
       let product = Product (days * rate) in
       record {
         answer-is = e ∙ sym (one-test (Refused BadField) product);
-        number-is = ap productNumber e ∙ cond-ap productNumber fit product (Refused BadField) ∙ sym (one-test 5 0);
-        value-is = ap productValue e ∙ cond-ap productValue fit product (Refused BadField) ∙ sym (one-test 0 (days * rate));
+        number-is = ap productNumber e ∙ cond-ap productNumber bothIn product (Refused BadField) ∙ sym (one-test 5 0);
+        value-is = ap productValue e ∙ cond-ap productValue bothIn product (Refused BadField) ∙ sym (one-test 0 (days * rate));
       }
 
 module _ (days rate amount : ℕ) where
@@ -79,11 +78,11 @@ module _ (days rate amount : ℕ) where
   unfolding rateDaysAmountAnswer rateDaysAmount rateDays
   rateDaysAmount-call r e =
       let product = Product (days * rate * amount) in
-      let fit = inLimits amount rate days in
+      let allIn = inLimits amount rate days in
       record {
         answer-is = e ∙ sym (one-test-of-all (Refused BadField) product);
-        number-is = ap productNumber e ∙ cond-ap productNumber fit product (Refused BadField) ∙ sym (one-test-of-all 5 0);
-        value-is = ap productValue e ∙ cond-ap productValue fit product (Refused BadField) ∙ sym (one-test-of-all 0 (days * rate * amount));
+        number-is = ap productNumber e ∙ cond-ap productNumber allIn product (Refused BadField) ∙ sym (one-test-of-all 5 0);
+        value-is = ap productValue e ∙ cond-ap productValue allIn product (Refused BadField) ∙ sym (one-test-of-all 0 (days * rate * amount));
       }
 
   cents-same : centsOf (rateDaysAmountAnswer days rate amount) ≡ compensationOf amount rate days
@@ -94,6 +93,10 @@ module _ (days rate amount : ℕ) where
       ∙ cond-ap centsOf (inLimits amount rate days) product (Refused BadField)
       ∙ rw (rateDaysAmount-interest days rate amount)
 
+one-cent : (days rate : ℕ) → rateDaysAmountAnswer days rate 1 ≡ rateDaysAnswer days rate
+unfolding rateDaysAmountAnswer rateDaysAnswer rateDaysAmount
+one-cent days rate = rw (mul-one (rateDays days rate))
+
 -- ---- the promise
 
 pub products : Products
@@ -101,6 +104,7 @@ unfolding rateDaysAnswer rateDaysAmountAnswer rateDaysAmount rateDays
 products = record {
   same-interest = rateDaysAmount-interest;
   same-cents = cents-same;
+  of-one-cent = one-cent;
   worked-first = refl;
   worked-second = refl;
 }
