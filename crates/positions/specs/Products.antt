@@ -72,7 +72,7 @@ centsOf (Product p) = Cents (halfUp p partsOfCent)
 centsOf (Refused r) = OutsideLimits
 
 pub record Products : Type 0 where
-  -- it is the interest in another order
+  -- the second product is the interest in another order
   pub same-interest : (days rate amount : ℕ) → rateDaysAmount days rate amount ≡ interest amount rate days
   -- it is given where a compensation is, and nowhere else, and rounds to it
   pub same-cents : (days rate amount : ℕ) → centsOf (rateDaysAmountAnswer days rate amount) ≡ compensationOf amount rate days
