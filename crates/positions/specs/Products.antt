@@ -2,7 +2,7 @@
 -- Numbers cannot show in which order they were multiplied: what is held here is each product, and that K comes of the second.
 -- Assumes nothing.
 use mathlib.Core.Path.{_≡_}
-use mathlib.Core.List.{List, [], _∷_}
+use mathlib.Core.List.{List, [], _∷_, _++_}
 use Prim.Native.Nat.{ℕ, _*_}
 use lib.Dec.{leb}
 use Rattle.common.specs.Checks.{Check, check, judged}
@@ -28,14 +28,10 @@ rateDaysAmount days rate amount = rateDays days rate * amount
 abbrev pub rateDaysChecks : {A : Type 0} → A → ℕ → ℕ → List (Check A)
 rateDaysChecks bad days rate = check (leb days daysLimit) bad ∷ check (leb rate rateLimit) bad ∷ []
 
--- the amount is one that a row may hold
+-- and behind them that the amount is one that a row may hold
 abbrev pub rateDaysAmountChecks : {A : Type 0} → A → ℕ → ℕ → ℕ → List (Check A)
 rateDaysAmountChecks bad days rate amount =
-    check (leb days daysLimit) bad
-    ∷ check (leb rate rateLimit) bad
-    ∷ check (leb 1 amount) bad
-    ∷ check (leb amount amountLimit) bad
-    ∷ []
+    rateDaysChecks bad days rate ++ (check (leb 1 amount) bad ∷ check (leb amount amountLimit) bad ∷ [])
 
 unfoldable pub rateDaysAnswer : ℕ → ℕ → ProductAnswer
 rateDaysAnswer days rate = judged (rateDaysChecks (Refused BadField) days rate) (Product (rateDays days rate))

@@ -1,5 +1,5 @@
 -- Laws of specs/Products. To cite: `products`; for the code `rateDays-call`, `rateDaysAmount-call`, which take an answer by one test,
--- `rateDaysAmount-interest` and `rateDays-most`. Assumes nothing.
+-- `rateDaysAmount-interest`, `interest-steps` and `rateDays-most`. Assumes nothing.
 use mathlib.Core.Path.{_≡_, refl, sym, ap, _∙_}
 use mathlib.Core.Bool.{Bool, true, false, cond, _&&_}
 use mathlib.Core.List.{[], _∷_}
@@ -20,6 +20,11 @@ pub rateDaysAmount-interest : (days rate amount : ℕ) → rateDaysAmount days r
 unfolding rateDaysAmount rateDays interest
 rateDaysAmount-interest days rate amount =
     mul-comm (days * rate) amount ∙ ap (λ (n : ℕ). amount * n) (mul-comm days rate) ∙ sym (mul-assoc amount rate days)
+
+-- the first product by the amount
+pub interest-steps : (days rate amount : ℕ) → rateDays days rate * amount ≡ interest amount rate days
+unfolding rateDaysAmount
+interest-steps days rate amount = rateDaysAmount-interest days rate amount
 
 -- the largest first product
 pub rateDays-most : (days rate : ℕ) → days ≤ daysLimit → rate ≤ rateLimit → rateDays days rate ≤ 9989001
@@ -50,6 +55,14 @@ judged-four true true true d bad good = refl
 
 -- ---- the calls
 
+-- the number and the value of an answer by one test
+parts : (t : Bool) (p : ℕ) {r : ProductAnswer}
+    → r ≡ cond t (Product p) (Refused BadField) → (productNumber r ≡ cond t 0 5) × (productValue r ≡ cond t p 0)
+parts t p e = (
+  ap productNumber e ∙ cond-ap productNumber t (Product p) (Refused BadField),
+  ap productValue e ∙ cond-ap productValue t (Product p) (Refused BadField),
+)
+
 module _ (days rate : ℕ) where
   abbrev bothIn : Bool
   bothIn = leb days daysLimit && leb rate rateLimit
@@ -61,11 +74,11 @@ module _ (days rate : ℕ) where
       (r : ProductAnswer) → r ≡ cond (leb days daysLimit && leb rate rateLimit) (Product (rateDays days rate)) (Refused BadField) → RateDaysCall days rate r
   unfolding rateDaysAnswer rateDays
   rateDays-call r e =
-      let product = Product (days * rate) in
+      let p = days * rate in
       record {
-        answer-is = e ∙ sym (one-test (Refused BadField) product);
-        number-is = ap productNumber e ∙ cond-ap productNumber bothIn product (Refused BadField) ∙ sym (one-test 5 0);
-        value-is = ap productValue e ∙ cond-ap productValue bothIn product (Refused BadField) ∙ sym (one-test 0 (days * rate));
+        answer-is = e ∙ sym (one-test (Refused BadField) (Product p));
+        number-is = parts bothIn p e .0 ∙ sym (one-test 5 0);
+        value-is = parts bothIn p e .1 ∙ sym (one-test 0 p);
       }
 
 module _ (days rate amount : ℕ) where
@@ -77,12 +90,12 @@ module _ (days rate amount : ℕ) where
       → RateDaysAmountCall days rate amount r
   unfolding rateDaysAmountAnswer rateDaysAmount rateDays
   rateDaysAmount-call r e =
-      let product = Product (days * rate * amount) in
+      let p = days * rate * amount in
       let allIn = inLimits amount rate days in
       record {
-        answer-is = e ∙ sym (one-test-of-all (Refused BadField) product);
-        number-is = ap productNumber e ∙ cond-ap productNumber allIn product (Refused BadField) ∙ sym (one-test-of-all 5 0);
-        value-is = ap productValue e ∙ cond-ap productValue allIn product (Refused BadField) ∙ sym (one-test-of-all 0 (days * rate * amount));
+        answer-is = e ∙ sym (one-test-of-all (Refused BadField) (Product p));
+        number-is = parts allIn p e .0 ∙ sym (one-test-of-all 5 0);
+        value-is = parts allIn p e .1 ∙ sym (one-test-of-all 0 p);
       }
 
   cents-same : centsOf (rateDaysAmountAnswer days rate amount) ≡ compensationOf amount rate days
