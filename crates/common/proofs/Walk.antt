@@ -1,7 +1,7 @@
 -- Laws of specs/Walk. Names: F-hit, F-miss, F-end are the steps of a loop that walks from i up to n; F-same: two tests that
 -- agree give one answer. To cite besides: `all_from_at`, `all_from_made`, and `first_from_cases`, from any number on
 -- `cases_from`, from which all else of a search follows. Assumes nothing.
-use mathlib.Core.Path.{◌≡◌, refl}
+use mathlib.Core.Path.{◌≡◌, refl, subst}
 use mathlib.Core.Bool.{Bool, true, false, cond}
 use mathlib.Core.Logic.{⊎_elim}
 use Prim.Native.Nat.{ℕ, zero, suc, ◌+◌, ◌-◌, ◌≤◌, ◌<◌}
@@ -110,8 +110,11 @@ pub first_from_more :
 unfolding first_from
 first_from_more t hit miss i zero = rw (add-zero i)
 first_from_more t hit miss i (suc left) =
-    let e : i + suc left ≡ i + 1 + left = omega arith in
-    rw (e, first_from_more t hit miss (i + 1) left)
+    let e : i + 1 + left ≡ i + suc left = omega arith in
+    subst
+    (λ (x : ℕ). first_from t hit miss i (suc (suc left)) ≡ first_from t hit (cond (t x) (hit x) miss) i (suc left))
+    e
+    (rw (first_from_more t hit miss (i + 1) left))
 
 same_from :
     {A : Type 0} (t u : ℕ → Bool) (hit : ℕ → A) (miss : A) (i left : ℕ) → ((k : ℕ) → i ≤ k → k < i + left → t k ≡ u k)
