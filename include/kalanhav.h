@@ -1,4 +1,4 @@
-/* Kalanhav for C: a ledger of SEPA direct debits. Link target/staticlib/libforeign.a, which `rt staticlib foreign` writes (x86-64).
+/* Kalanhav for C: a ledger of SEPA direct debits. Link target/staticlib/libforeign.a, which `examples/library` writes (x86-64).
  *
  * All memory is lent by the caller, and a call keeps none of it: nothing is stored elsewhere, so calls on different memory may run at
  * the same time. Slices must not overlap, no pointer is null, and those to 64-bit cells are aligned to 8 bytes. A length counts cells, or

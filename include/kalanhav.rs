@@ -1,4 +1,4 @@
-//! Kalanhav for Rust, edition 2021: the functions of target/staticlib/libforeign.a, which `rt staticlib foreign` writes, declared
+//! Kalanhav for Rust, edition 2021: the functions of target/staticlib/libforeign.a, which `examples/library` writes, declared
 //! and wrapped. What each does and refuses stands in include/kalanhav.h. tests/declarations.py holds both to crates/foreign/src. A
 //! slice passes as a pointer and a length.
 #![allow(dead_code)]

@@ -1,5 +1,5 @@
 #!/usr/bin/env python3
-"""include/kalanhav.h and include/kalanhav.rs declare the functions of crates/foreign as they are: names, order and types of the
+"""include/kalanhav.h and include/kalanhav.rs declare the functions of crates/foreign_c as they are: names, order and types of the
 parameters, and the result. A slice passes as a pointer and a length. Their numbers are those of the code. A difference fails."""
 import re
 import sys
@@ -76,7 +76,7 @@ def wrong_numbers():
 
 
 def main():
-    files = sorted((TOP / "crates/foreign/src").glob("*.rt"))
+    files = sorted((TOP / "crates/foreign_c/src").glob("*.rt"))
     there = {name: made for file in files for name, made in source(file.read_text()).items()}
     declared = {path: read((TOP / path).read_text()) for path, read in (("include/kalanhav.h", header), ("include/kalanhav.rs", module))}
     wrong = [f"{path}: {name}" for path, made in declared.items() for name in there.keys() | made.keys() if there.get(name) != made.get(name)]

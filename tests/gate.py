@@ -14,7 +14,7 @@ SYSTEM = ["bash", "env", "dirname", "mktemp", "cat", "rm", "cmp", "grep", "sleep
 RT = '[ "$1" = ci ] || { echo crates.txt; exit; }\necho a line\n'
 WELL = {"crates.txt": "", "bin/rt": RT + "echo 3 passed, 0 failed", "bin/python3": f'exec {sys.executable} "$@"', "bin/rustc": "",
         "bin/cc": "", "tests/gate.py": "", "tests/declarations.py": "",
-        "tests/pages.py": "", "tests/streams.py": "", "twin/compare": "", "examples/run": ""}
+        "tests/pages.py": "", "tests/streams.py": "", "twin/compare": "", "examples/run": "", "tools/build": ""}
 AGREES = "print('#!/bin/sh\\n1')"
 for oracle in ORACLES:
     WELL |= {f"tests/{oracle}_oracle.py": AGREES, f"crates/{oracle}_cases/stdout": "1\n"}
@@ -31,6 +31,8 @@ FAILING = [
     ({"bin/rt": RT + "echo 3 passed, 0 failed; exit 1"}, "rt ci"),
     ({"bin/rt": RT + "echo 0 passed, 0 failed"}, "rt ci"),
     ({"bin/rt": RT}, "rt ci"),
+    ({"bin/rt": RT + "echo 'rt: ok; must-fail edits: 2 refused, 1 bad; all done'; echo 3 passed, 0 failed"}, "rt ci"),
+    ({"tools/build": "exit 1"}, "tools/build"),
     ({"tests/declarations.py": "exit(1)"}, "tests/declarations.py"),
     ({"tests/pages.py": "exit(1)"}, "tests/pages.py"),
     ({"examples/run": "exit 1"}, "examples/run"),

@@ -102,9 +102,20 @@ def turn(text, names, walk=False):
     return re.sub(NAME, each, text)
 
 
+def lent(text):
+    """The names that a file imports from a library."""
+    out = set()
+    for m in re.finditer(r"(?m)^use (\S+?)\.\{([^}]*)\}", text):
+        if not re.match(r"Rattle\.(?!std\b|core\b|libc\b|os\b|io\b)", m[1]):
+            out |= set(re.split(r"[,\s]+", m[2]))
+    return out
+
+
 def by_code(text, names, walk):
     """Turns what is no comment; in a comment only what stands in backticks or has a capital inside."""
     out = []
+    foreign = lent(text)
+    names = {n: v for n, v in names.items() if n not in foreign}
     for line in text.split("\n"):
         at = re.search(r"(?:^|(?<=\s))--(?=\s|$)", line)
         cut = at.start() if at else len(line)

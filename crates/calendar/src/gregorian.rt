@@ -17,7 +17,7 @@ const DAYS_TO_2101: u64 = 36890;
 const FOUR_YEARS: u64 = 1461;
 
 // A day by its year, from 2000, and its day of the year, from 0.
-#[derive(Drop)]
+#[derive(Clone, Copy)]
 pub(crate) struct Place {
     pub(crate) year: u64,
     pub(crate) day: u64,

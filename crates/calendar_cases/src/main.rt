@@ -1,5 +1,7 @@
 // Further cases of the calendar, for comparison with values that do not come from it (tests/calendar_oracle.py).
 // First some dates with all answers, then a line for each year with a digest of the answers for every day of it.
+#![tactic(auto)]
+
 ghost use Rattle.std.specs.Prelude.{◌<◌};
 
 use calendar::{

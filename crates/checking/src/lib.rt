@@ -1,5 +1,7 @@
 // What the code for every event shares: what it asks for, the rows of what it names, and the checking order of document 01, refusals 6 to
 // 17: specs/Order. A new refusal is one field of `Tests` and one line of `first_failing` and of its definition.
+#![tactic(auto)]
+
 ghost use Rattle.std.specs.Prelude.{◌≡◌, cond};
 ghost use Rattle.model.specs.declared.Answer.TheVariants.{Refused as Refuses};
 ghost use Rattle.checking.specs.Order.{none_fails, first_failing};
@@ -13,14 +15,14 @@ use tables::lookup::existing_of;
 use tables::{Found, Header};
 
 // The header after an event, and the answer to it. The header stands first so that it lies where it is copied whole.
-#[derive(Drop)]
+#[derive(Clone, Copy)]
 pub struct Outcome {
     pub header: Header,
     pub answer: Answer,
 }
 
 // Whether each test is passed, in checking order.
-#[derive(Drop)]
+#[derive(Clone, Copy)]
 pub struct Tests {
     pub order: bool,
     pub day: bool,

@@ -1,4 +1,5 @@
 // Numbers of document 01 that several crates use: specs/Limits. The other definitions and laws are in specs/ and proofs/.
+#![tactic(auto)]
 
 // Parties and banks.
 pub const CREDITORS: u64 = 256;

@@ -1,5 +1,7 @@
 // Numbers as text, document 01, "The text line": reading the number of a field and writing it. Every public function answers for
 // any input.
+#![tactic(auto)]
+
 ghost use Rattle.std.specs.Prelude.{◌≡◌};
 ghost use Rattle.digits.specs.Field.{has_room};
 

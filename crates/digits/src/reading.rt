@@ -8,7 +8,7 @@ use crate::{BLANK, has_room};
 
 // What stands in a field. NoValue is first: the compiler takes the first variant for the rarer one, and inlines what comes after the
 // other.
-#[derive(Drop)]
+#[derive(Clone, Copy)]
 pub enum FieldAnswer {
     NoValue,
     Value(u64),

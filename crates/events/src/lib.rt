@@ -1,8 +1,10 @@
 // The events of document 01, and their limits.
+#![tactic(auto)]
+
 pub mod limits;
 
 // An event by its nine fields. A field that the kind and code do not name is 0.
-#[derive(Drop)]
+#[derive(Clone, Copy)]
 pub struct Event {
     pub kind: u64,
     pub date: u64,

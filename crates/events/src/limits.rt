@@ -8,14 +8,14 @@ use common::{AMOUNT_LIMIT, BANKS, CREDITORS, DEBTORS, NUMBER_LIMIT, RATE_LIMIT};
 use refusals::Refusal;
 
 // A range of numbers, both ends included.
-#[derive(Drop)]
+#[derive(Clone, Copy)]
 pub struct Range {
     pub low: u64,
     pub high: u64,
 }
 
 // What the second date may be.
-#[derive(Drop)]
+#[derive(Clone, Copy)]
 pub enum SecondDate {
     // 0
     NoSecond,
@@ -26,7 +26,7 @@ pub enum SecondDate {
 }
 
 // The limits of the events of one kind with one of some codes.
-#[derive(Drop)]
+#[derive(Clone, Copy)]
 pub struct Row {
     pub kind: u64,
     pub codes: Range,
@@ -38,14 +38,14 @@ pub struct Row {
     pub second: SecondDate,
 }
 
-#[derive(Drop)]
+#[derive(Clone, Copy)]
 pub enum RowAnswer {
     Found(Row),
     NoRow,
 }
 
 // Whether an event is within its limits.
-#[derive(Drop)]
+#[derive(Clone, Copy)]
 pub enum Checked {
     Within,
     Refused(Refusal),

@@ -1,5 +1,7 @@
 // Cases of the text line and of the limits, for comparison with answers worked out from document 01 by hand and by
 // tests/events_oracle.py. A case writes the number of its answer, 0 where it is taken, and then what was written back.
+#![tactic(auto)]
+
 use events::limits::Checked;
 use events::{Event, limits};
 use libc::STDOUT_FILENO;

@@ -1,7 +1,7 @@
 -- Document 01, refusal 2: when lent memory is fit. Each part quotes its words; what refusal 2 does not name is fit.
 -- (Its last words, on bytes to write to, are the line writer's alone.)
 -- To cite: proofs/Laws/Fitness, `Fit` with `fit_facts` and `fit_made`. Assumes nothing.
-use Rattle.std.specs.Prelude.{Bool, true, false, ◌&&◌, ◌||◌, List, [], ◌∷◌, ◌++◌, ℕ, ◌%◌, eqb, leb, ℤ, pos, neg_ℤ, length, get_or}
+use Rattle.std.specs.Prelude.{Bool, ◌&&◌, ◌||◌, List, [], ◌∷◌, ◌++◌, ℕ, ◌%◌, eqb, leb, ℤ, pos, neg_ℤ, length, get_or}
 use Rattle.std.specs.Int.Signed.{le_z}
 use Rattle.common.specs.Tests.{all_of}
 use Rattle.common.specs.Walk.{all_from}

@@ -29,8 +29,7 @@ fn put_opening(answer: OpenAnswer, state: &mut [u64], cents: &mut [i64]) -> u64
 }
 
 // Opens the ledger. 0, or 2 where nothing changes: cells of another count, or tables of other sizes.
-#[unsafe(no_mangle)]
-pub extern "C" fn kalanhav_open(
+pub fn kalanhav_open(
     state: &mut [u64],
     cents: &mut [i64],
     mandates: &[u64],
@@ -70,8 +69,7 @@ fn put_outcome(outcome: Outcome, state: &mut [u64], cents: &mut [i64]) -> u64
 }
 
 // Gives one event to the ledger: book's `take_event`. 0, or the number of the refusal, where nothing changes.
-#[unsafe(no_mangle)]
-pub extern "C" fn kalanhav_take_event(
+pub fn kalanhav_take_event(
     state: &mut [u64],
     cents: &mut [i64],
     event: &[u64],
@@ -123,8 +121,7 @@ fn put_replay(outcome: OpenOutcome, state: &mut [u64], cents: &mut [i64]) -> u64
 
 // Opens the ledger and gives it every event of a list: replay's `replay`. 0, or 2 where nothing changes: cells of
 // another count, or tables of other sizes.
-#[unsafe(no_mangle)]
-pub extern "C" fn kalanhav_replay(
+pub fn kalanhav_replay(
     state: &mut [u64],
     cents: &mut [i64],
     events: &[u64],

@@ -1,5 +1,7 @@
 // The ledger for programs in C or Rust: functions on numbers and slices, for any sizes and any content. A slice passes as
 // a pointer and a length. What stands in which cell: crates/cells/specs/Cells.
+#![tactic(auto)]
+
 ghost use Rattle.std.specs.Prelude.{◌≡◌, ◌&&◌};
 ghost use Rattle.tables.specs.Ledger.{ledger};
 ghost use Rattle.fitness.specs.Fitness.{fit};
@@ -18,8 +20,7 @@ use safety::is_safe;
 const UNFIT: u64 = 2;
 
 // Whether lent memory is fit.
-#[unsafe(no_mangle)]
-pub extern "C" fn kalanhav_is_fit(
+pub fn kalanhav_is_fit(
     state: &[u64],
     cents: &[i64],
     mandates: &[u64],
@@ -44,8 +45,7 @@ pub extern "C" fn kalanhav_is_fit(
 }
 
 // Whether lent memory is safe: fit, and every position within what the collections have moved.
-#[unsafe(no_mangle)]
-pub extern "C" fn kalanhav_is_safe(
+pub fn kalanhav_is_safe(
     state: &[u64],
     cents: &[i64],
     mandates: &[u64],

@@ -9,8 +9,7 @@ use cells::reading::{cells_fit, header_in};
 use cells::writing::put_query;
 
 // A position in cents, written to its cell: book's `position`. 0, or 2 or 5, where nothing changes.
-#[unsafe(no_mangle)]
-pub extern "C" fn kalanhav_position(
+pub fn kalanhav_position(
     state: &[u64],
     cents: &mut [i64],
     kind: u64,

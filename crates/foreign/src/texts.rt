@@ -58,8 +58,7 @@ fn put_piece(piece: Piece, past: u64, state: &mut [u64], cents: &mut [i64]) -> u
 
 // Takes a piece of input: text's `take_text`. 0, or 2 where nothing changes: cells of another count, or a text or a
 // buffer that is too short.
-#[unsafe(no_mangle)]
-pub extern "C" fn kalanhav_take_text(
+pub fn kalanhav_take_text(
     state: &mut [u64],
     cents: &mut [i64],
     text: &mut [u8],
@@ -126,8 +125,7 @@ fn put_ending(ending: Ending, past: u64, state: &mut [u64]) -> u64
 
 // Answers a partial line where the input ends: listing's `end_text`. 0, or 2 where nothing changes: cells of another
 // count, or a buffer that is too short.
-#[unsafe(no_mangle)]
-pub extern "C" fn kalanhav_end_text(state: &mut [u64], out: &mut [u8]) -> u64
+pub fn kalanhav_end_text(state: &mut [u64], out: &mut [u8]) -> u64
     ensures { EndCall state.old out.old result state.new out.new }
 {
     if !state_cells_fit(state) {
@@ -156,8 +154,7 @@ fn put_listing(listing: Listing, state: &mut [u64]) -> u64
 
 // Writes the listing of positions: listing's `list_positions`. 0, or 2 where nothing changes: memory that is not fit, or
 // a buffer without room for the longest listing.
-#[unsafe(no_mangle)]
-pub extern "C" fn kalanhav_list_positions(
+pub fn kalanhav_list_positions(
     state: &mut [u64],
     cents: &[i64],
     mandates: &[u64],

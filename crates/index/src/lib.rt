@@ -1,4 +1,6 @@
 // An index of the rows of a table by number, for a batch of lookups: specs/Index.
+#![tactic(auto)]
+
 ghost use Rattle.std.specs.Prelude.{◌≡◌, ◌≤◌, ◌<◌};
 ghost use Rattle.index.specs.Index.{slot_of, covered, index_of, covered_by, next_row, first_row};
 ghost use Rattle.tables.specs.Lookup.{number_at};

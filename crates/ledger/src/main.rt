@@ -1,6 +1,8 @@
 // The program `ledger` of document 01, "The text line": events from standard input, one a line; to standard output an
 // answer for each line, then the positions and the total compensation. It reads and writes; what the bytes mean, what is
 // answered to them and how that is written is in the libraries, proved.
+#![tactic(auto)]
+
 ghost use Rattle.std.specs.Prelude.{◌≡◌, true, false, not, ◌&&◌, [], ◌*◌, ◌≤◌, ◌<◌, ltb, length};
 ghost use Rattle.tables.specs.Ledger.{ledger};
 ghost use Rattle.report.specs.Layout.{answer_length};
@@ -32,7 +34,7 @@ const OUT: usize = 2_621_440;
 // How far a run is: the header of the ledger, the lines answered, the bytes of the partial line at the front of the text,
 // the bytes of answers to be written, whether there is input beyond the last line that is answered, and whether the run is
 // whole: no read and no write has failed.
-#[derive(Drop)]
+#[derive(Clone, Copy)]
 struct Stage {
     header: Header,
     lines: u64,
@@ -43,7 +45,7 @@ struct Stage {
 }
 
 // The bytes of the text after a read, and whether it did not fail.
-#[derive(Drop)]
+#[derive(Clone, Copy)]
 struct Filled {
     bytes: usize,
     whole: bool,

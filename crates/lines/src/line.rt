@@ -13,14 +13,14 @@ use events::limits::{Checked, check};
 use refusals::Refusal;
 
 // What a line says.
-#[derive(Drop)]
+#[derive(Clone, Copy)]
 pub enum LineAnswer {
     Taken(Event),
     Refused(Refusal),
 }
 
 // Whether a line was written.
-#[derive(Drop)]
+#[derive(Clone, Copy)]
 pub enum WriteAnswer {
     Written,
     Refused(Refusal),

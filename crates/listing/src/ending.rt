@@ -6,7 +6,7 @@ use refusals::{Refusal, number_of};
 use report::layout::{ANSWER, LAST_NUMBER, answer_line};
 
 // The lines answered, the bytes written, and the answer to the call.
-#[derive(Drop)]
+#[derive(Clone, Copy)]
 pub struct Ending {
     pub lines: u64,
     pub written: usize,

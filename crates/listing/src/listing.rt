@@ -15,7 +15,7 @@ use report::layout::{POSITION, position_line};
 use tables::Header;
 
 // Whether a listing was written, and its bytes.
-#[derive(Drop)]
+#[derive(Clone, Copy)]
 pub struct Listing {
     pub answer: Answer,
     pub bytes: usize,

@@ -1,10 +1,12 @@
 // The rules of document 01 over the whole ledger, and the theorem over every list of events: see specs/ and proofs/.
 // Here are only the types of what is asked and of the answers.
+#![tactic(auto)]
+
 use refusals::Refusal;
 use tables::Mandate;
 
 // How a mandate changes, an amend with code 0 and 1, and a cancel.
-#[derive(Drop)]
+#[derive(Clone, Copy)]
 pub enum Change {
     NewBank(u64),
     NewCreditor(u64),
@@ -13,7 +15,7 @@ pub enum Change {
 
 // A collection to be presented: the numbers of its mandate and its own, the amount in cents, the requested due date, the
 // sequence code.
-#[derive(Drop)]
+#[derive(Clone, Copy)]
 pub struct Presentation {
     pub mandate: u64,
     pub collection: u64,
@@ -23,7 +25,7 @@ pub struct Presentation {
 }
 
 // How a settled collection is undone. A refund has its rate, and code 0 authorised, 1 unauthorised.
-#[derive(Drop)]
+#[derive(Clone, Copy)]
 pub enum Way {
     ByReturn,
     ByRefund(u64, u64),
@@ -31,7 +33,7 @@ pub enum Way {
 }
 
 // What becomes of a collection.
-#[derive(Drop)]
+#[derive(Clone, Copy)]
 pub enum Treatment {
     Settle,
     Reject,
@@ -40,7 +42,7 @@ pub enum Treatment {
 
 // What an event asks for: a creditor with its bank, a mandate, a change of the mandate of a number, a collection to be presented, or
 // the collection of a number to be treated.
-#[derive(Drop)]
+#[derive(Clone, Copy)]
 pub enum Action {
     AddCreditor(u64, u64),
     AddMandate(Mandate),
@@ -50,14 +52,14 @@ pub enum Action {
 }
 
 // The answer to an event.
-#[derive(Drop)]
+#[derive(Clone, Copy)]
 pub enum Answer {
     Accepted,
     Refused(Refusal),
 }
 
 // The answer to a position query: the figure in cents.
-#[derive(Drop)]
+#[derive(Clone, Copy)]
 pub enum QueryAnswer {
     Figure(i64),
     Refused(Refusal),

@@ -1,4 +1,6 @@
 // The opening of a ledger, document 01, on memory of any sizes and any content: specs/Opening.
+#![tactic(auto)]
+
 ghost use Rattle.std.specs.Prelude.{◌≡◌, pos, length, replicate};
 ghost use Rattle.tables.specs.Ledger.{ledger};
 ghost use Rattle.opening.specs.Opening.{open_number, open_result, opening};
@@ -7,14 +9,14 @@ use fitness::fitness::sizes_fit;
 use refusals::Refusal;
 use tables::Header;
 
-#[derive(Drop)]
+#[derive(Clone, Copy)]
 pub enum OpenAnswer {
     Opened,
     Refused(Refusal),
 }
 
 // The answer of an opening, and the header after it.
-#[derive(Drop)]
+#[derive(Clone, Copy)]
 pub struct OpenOutcome {
     pub answer: OpenAnswer,
     pub header: Header,

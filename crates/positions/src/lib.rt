@@ -1,5 +1,7 @@
 // Signed positions, what an event of money posts to them, and compensation: document 01, "Postings", and document 02, (g).
 // Every public function answers for any input: an enum says where there is nothing to post to, or no value.
+#![tactic(auto)]
+
 pub mod amounts;
 pub mod compensation;
 pub mod posting;
@@ -10,7 +12,7 @@ use refusals::Refusal;
 pub const COMPENSATION_LIMIT: u64 = 277472249997;
 
 // What became of a posting. Only Posted changed the table.
-#[derive(Drop)]
+#[derive(Clone, Copy)]
 pub enum PostAnswer {
     Posted,
     NoEntry,
@@ -18,21 +20,21 @@ pub enum PostAnswer {
 }
 
 // A compensation in cents, or an amount, a rate or days outside their limits.
-#[derive(Drop)]
+#[derive(Clone, Copy)]
 pub enum CompensationAnswer {
     Cents(u64),
     OutsideLimits,
 }
 
 // A product by which a compensation is worked out, or a number outside its limits.
-#[derive(Drop)]
+#[derive(Clone, Copy)]
 pub enum ProductAnswer {
     Product(u64),
     Refused(Refusal),
 }
 
 // The amounts that one event posts: to the debtor, the creditor, the bank of each and total compensation.
-#[derive(Drop)]
+#[derive(Clone, Copy)]
 pub struct Postings {
     pub debtor: i64,
     pub creditor: i64,
@@ -42,7 +44,7 @@ pub struct Postings {
 }
 
 // What an event posts, or an amount or a compensation outside its limit.
-#[derive(Drop)]
+#[derive(Clone, Copy)]
 pub enum PostingsAnswer {
     Amounts(Postings),
     OutsideLimits,

@@ -1,5 +1,7 @@
 // Compensation and its two products for a spread of cases, postings and transfers on a table of four, the amounts of an event.
 // The figures in stdout were worked out apart from this code, those of compensation with exact fractions.
+#![tactic(auto)]
+
 use positions::amounts::{refunded, reversed, settlement};
 use positions::compensation::{compensation, rate_days, rate_days_amount};
 use positions::posting::{post, transfer};

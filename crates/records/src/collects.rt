@@ -19,7 +19,7 @@ use tables::rows::{mandate_at, put_collection, put_mandate, rows_of};
 use tables::{Collection, Found, Header, Mandate, Standing, State};
 
 // Whether a collect is accepted, and its kept due.
-#[derive(Drop)]
+#[derive(Clone, Copy)]
 enum CollectVerdict {
     Refuse(Refusal),
     Go(u64),

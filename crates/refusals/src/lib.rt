@@ -1,8 +1,10 @@
 // The refusals of document 01, "What is refused, in checking order", by name. specs/Refusals gives each its number.
+#![tactic(auto)]
+
 ghost use Rattle.std.specs.Prelude.{◌≡◌};
 ghost use Rattle.refusals.specs.Refusals.{number_of};
 
-#[derive(Drop)]
+#[derive(Clone, Copy)]
 pub enum Refusal {
     BadLine,
     UnfitMemory,

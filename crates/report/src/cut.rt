@@ -6,7 +6,7 @@ ghost use Rattle.report.specs.Cut.{end_from, is_none, is_at};
 use lines::line::{COLUMNS, LINE_END};
 
 // The place of the byte that ends a line.
-#[derive(Drop)]
+#[derive(Clone, Copy)]
 pub enum LineEnd {
     At(usize),
     NoEnd,

@@ -10,7 +10,7 @@ use lines::line::LINE_END;
 use positions::posting::in_limit;
 
 // Whether a line was written.
-#[derive(Drop)]
+#[derive(Clone, Copy)]
 pub enum Placed {
     Written,
     NoRoom,

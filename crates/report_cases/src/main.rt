@@ -1,5 +1,7 @@
 // Cases of the text of the program `ledger`, for comparison with lines that document 01 shows or that follow from it, as
 // tests/report_oracle.py works them out.
+#![tactic(auto)]
+
 use libc::STDOUT_FILENO;
 use report::cut::LineEnd;
 use report::layout::Placed;

@@ -1,5 +1,7 @@
 // Safety of lent memory: fit, and every position within what the collections have moved: specs/Safety. An event keeps safe
 // memory safe, so a batch of events tests once.
+#![tactic(auto)]
+
 ghost use Rattle.std.specs.Prelude.{◌≡◌, ◌≤◌, ◌<◌};
 ghost use Rattle.common.specs.Limits.{collection_row_limit};
 ghost use Rattle.tables.specs.Ledger.{ledger};

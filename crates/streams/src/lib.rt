@@ -1,6 +1,8 @@
 // Standard input and output. A call that was interrupted is made again at once, one that would block after a pause; one that
 // fails otherwise ends the stream, and a line on standard error says why. Nothing says which bytes come or go: specs/Streams
 // says what can be said.
+#![tactic(auto)]
+
 ghost use Rattle.streams.specs.Streams.{is_error, is_passing, said_by, ReadBehind, WholeWhenEmpty};
 ghost use Rattle.std.specs.Prelude.{◌≡◌, length};
 
@@ -8,7 +10,7 @@ use libc::types::timespec;
 use libc::{EAGAIN, EINTR, STDIN_FILENO, STDOUT_FILENO};
 
 // What a read gave: so many bytes, the end of the input, or nothing since it failed.
-#[derive(Drop)]
+#[derive(Clone, Copy)]
 pub enum Got {
     Bytes(usize),
     End,

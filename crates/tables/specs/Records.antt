@@ -2,14 +2,13 @@
 -- is a column, a cell of `mandate_cells`, and a line of `mandate_from` and `remade` (or of `collection_cells`, `collection_from` and
 -- `with_state`); the stride must have room for it.
 -- To cite: proofs/Laws/Records. Assumes nothing.
-use Rattle.std.specs.Prelude.{Bool, true, false, cond, not, List, [], ◌∷◌, ◌++◌, ℕ, ◌-◌, eqb, length, get_or, replicate}
+use Rattle.std.specs.Prelude.{Bool, cond, not, List, [], ◌∷◌, ◌++◌, ℕ, ◌-◌, eqb, length, get_or, replicate}
 use Rattle.tables.specs.declared.Mandate.{Mandate}
 use Rattle.tables.specs.declared.Standing.{Standing}
 use Rattle.tables.specs.declared.Standing.TheVariants.{Live, Closed, Cancelled}
 use Rattle.tables.specs.declared.Collection.{Collection}
 use Rattle.tables.specs.declared.State.{State}
 use Rattle.tables.specs.declared.State.TheVariants.{Presented, Rejected, Settled, Undone}
-use Rattle.tables.specs.declared.Undoing.{Undoing}
 use Rattle.tables.specs.declared.Undoing.TheVariants.{Return, Refund, Reversal}
 use Rattle.tables.specs.Limits.{stride}
 use Rattle.tables.specs.MandateColumn

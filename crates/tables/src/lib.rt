@@ -1,5 +1,7 @@
 // Document 01, "Records", in lent memory: mandates and collections in rows of cells, lookup by number, creditors and their banks.
 // The lender gives any sizes and any content, and every public function answers for them.
+#![tactic(auto)]
+
 pub mod anew;
 pub mod collection_column;
 pub mod creditors;
@@ -8,7 +10,7 @@ pub mod mandate_column;
 pub mod rows;
 
 // What is lent beside the tables: the latest date, the rows used and the total compensation in cents.
-#[derive(Drop)]
+#[derive(Clone, Copy)]
 pub struct Header {
     pub latest: u64,
     pub mandates: usize,
@@ -16,7 +18,7 @@ pub struct Header {
     pub compensation: i64,
 }
 
-#[derive(Drop)]
+#[derive(Clone, Copy)]
 pub enum Standing {
     Live,
     Closed,
@@ -25,7 +27,7 @@ pub enum Standing {
 
 // A mandate: `bank` is the debtor's, `signed` the signing date, `code` 0 recurrent and 1 one-off, `first` whether FRST
 // is due, `presented` the kept due last presented, 0 if none.
-#[derive(Drop)]
+#[derive(Clone, Copy)]
 pub struct Mandate {
     pub number: u64,
     pub creditor: u64,
@@ -38,7 +40,7 @@ pub struct Mandate {
     pub presented: u64,
 }
 
-#[derive(Drop)]
+#[derive(Clone, Copy)]
 pub enum Undoing {
     Return,
     Refund,
@@ -46,7 +48,7 @@ pub enum Undoing {
 }
 
 // The state of a collection, with its day.
-#[derive(Drop)]
+#[derive(Clone, Copy)]
 pub enum State {
     Presented,
     Rejected,
@@ -55,7 +57,7 @@ pub enum State {
 }
 
 // A collection: parties and both banks as they were at presentation, the amount in cents, the kept due.
-#[derive(Drop)]
+#[derive(Clone, Copy)]
 pub struct Collection {
     pub number: u64,
     pub creditor: u64,
@@ -68,7 +70,7 @@ pub struct Collection {
 }
 
 // The row of a number.
-#[derive(Drop)]
+#[derive(Clone, Copy)]
 pub enum Found {
     At(usize),
     Nothing,

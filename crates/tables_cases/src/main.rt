@@ -1,6 +1,8 @@
 // Lent memory of every sort that refusal 2 of document 01 names, with the answer that it gets, and fit memory that a
 // hasty reading would refuse. Each case is the ledger of `lent` with one thing changed; a line is its name and the
 // answer, 2 or 0. The names of the cases say what is expected of them and why; stdout holds the answers.
+#![tactic(auto)]
+
 use fitness::fitness::is_fit;
 use libc::STDOUT_FILENO;
 use opening::{OpenAnswer, open_ledger};

@@ -30,7 +30,7 @@ use tables::Header;
 const CLIPPED: usize = COLUMNS + 2;
 
 // The header, the lines answered and the bytes written so far.
-#[derive(Drop)]
+#[derive(Clone, Copy)]
 struct Progress {
     header: Header,
     lines: u64,
@@ -38,7 +38,7 @@ struct Progress {
 }
 
 // The same, and where the first line begins that has not ended.
-#[derive(Drop)]
+#[derive(Clone, Copy)]
 struct Lines {
     header: Header,
     lines: u64,
@@ -48,7 +48,7 @@ struct Lines {
 
 // What a call leaves: the header, the lines answered so far, the bytes of the partial line, the bytes written, and
 // the answer to the call.
-#[derive(Drop)]
+#[derive(Clone, Copy)]
 pub struct Piece {
     pub header: Header,
     pub lines: u64,

@@ -18,7 +18,7 @@ use tables::anew::with_state;
 use tables::{Collection, State, Undoing};
 
 // Refuse; or write the collection to its row, alone or with the amounts to post.
-#[derive(Drop)]
+#[derive(Clone, Copy)]
 pub enum Verdict {
     Refuse(Refusal),
     Mark(Collection),

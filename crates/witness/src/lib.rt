@@ -1,1 +1,2 @@
 // Lists of events that the ledger accepts: see specs. There is no code here.
+#![tactic(auto)]

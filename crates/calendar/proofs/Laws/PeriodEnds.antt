@@ -2,7 +2,7 @@
 -- `range_period_end` (each gives a `DateAfter`), and the laws named F-mono (a later start ends no earlier). Assumes nothing.
 use mathlib.Core.Path.{◌≡◌, refl, sym, ◌∙◌}
 use mathlib.Core.Bool.{true, cond}
-use Prim.Native.Nat.{ℕ, ◌+◌, ◌-◌, ◌*◌, ◌≤◌, ◌<◌}
+use Prim.Native.Nat.{ℕ, ◌+◌, ◌*◌, ◌≤◌, ◌<◌}
 use native.Mathlib.Omega.{arith}
 use Rattle.calendar.specs.Gregorian.{leap, leap_day, month_length, is_date, in_range, first_date, last_date, last_year}
 use Rattle.calendar.specs.DayNumber.{calendar_days, days_before, year_start, day_number, date_at, date_of}

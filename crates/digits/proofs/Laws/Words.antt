@@ -790,6 +790,12 @@ pub next_is : (v b r : ℕ)
     → ((s : List ℕ) → 0 < length s → onward v (b ∷ s) ≡ onward r s) × (r < none → (v < none) × (r < v * 10 + 10))
 next_is v b r h e = rw e ((λ s k. column_next v b s k h), next_digit v b)
 
+pub next_read : (v b r : ℕ) → (v < none → v < 10 ^ 11) → r ≡ next_of v b → (s : List ℕ) → 0 < length s → onward v (b ∷ s) ≡ onward r s
+next_read v b r h e = (next_is v b r h e).0
+
+pub next_within : (v b r : ℕ) → (v < none → v < 10 ^ 11) → r ≡ next_of v b → r < none → (v < none) × (r < v * 10 + 10)
+next_within v b r h e = (next_is v b r h e).1
+
 pub narrower : (w k v : ℕ) → w ≤ k → (v < none → v < 10 ^ w) → v < none → v < 10 ^ k
 narrower w k v l h i = lt_of_lt_of_le (h i) (pow-le-pow_right {n = 10} (lit< tt) {i = w} {j = k} l)
 

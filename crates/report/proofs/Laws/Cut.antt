@@ -1,7 +1,7 @@
 -- Laws of specs/Cut. To cite: `FirstEnd` with `end_from_at`, `end_from_none`, `end_from_first`, `end_from_past`, and `end_from_cases`, from which both
 -- follow; `Endless` with `is_none_endless`. The rest serves the functions of src/cut.rt. Assumes nothing.
 use mathlib.Core.Path.{◌≡◌, refl, sym, ap, ◌∙◌}
-use mathlib.Core.Bool.{Bool, true, false, not, ◌&&◌, and_true, and_false}
+use mathlib.Core.Bool.{Bool, true, false, not, ◌&&◌, and-true, and-false}
 use mathlib.Core.List.{List}
 use mathlib.Core.Logic.{⊎_elim, ◌≢◌}
 use Prim.Native.Nat.{ℕ, ◌+◌, ◌-◌, ◌≤◌, ◌<◌}
@@ -153,17 +153,17 @@ none_step text i none h =
     ⊎_elim
     (λ (e : ends_at text i ≡ true).
     let f : end_from text i ≡ At i = sym (end_from_walk text i) ∙ first_from_hit (ends_at text) At NoEnd i (length text) h e in
-    rw (e, f, and_false none))
+    rw (e, f, and-false none))
     (λ (e : ends_at text i ≡ false).
     let f : end_from text i ≡ end_from text (i + 1) =
     sym (end_from_walk text i) ∙ first_from_miss (ends_at text) At NoEnd i (length text) h e ∙ end_from_walk text (i + 1) in
-    rw (e, f, and_true none))
+    rw (e, f, and-true none))
     (true_or_false (ends_at text i))
 
 pub none_end : (text : List ℕ) (i : ℕ) (none : Bool) → length text ≤ i → none ≡ none && is_none (end_from text i)
 none_end text i none h =
     let f : end_from text i ≡ NoEnd = sym (end_from_walk text i) ∙ first_from_end (ends_at text) At NoEnd i (length text) h in
-    rw (f, and_true none)
+    rw (f, and-true none)
 
 -- the line from a place on does not end k bytes on: the text is too short, or another byte stands there
 module _ (text : List ℕ) (from k : ℕ) where

@@ -1,0 +1,22 @@
+use Rattle.calendar.specs.declared.DayAnswer.TheVariants.{Day}
+use Rattle.calendar.proofs.Laws.Periods.{business_days_after_day, business_days_after_none}
+use Rattle.calendar.proofs.Laws.Answers.{day_of_day_lem}
+use Rattle.calendar.proofs.Laws.DayNumber.{day_number_lt}
+use Rattle.calendar.specs.DayNumber.{calendar_days, day_of}
+use Prim.Native.Nat.{◌<◌}
+use mathlib.Core.Path.{◌≡◌, sym, ◌∙◌}
+use Rattle.calendar.proofs.periods.business_days_after.Goals as goal
+
+pub open_after-requires : goal.open_after-requires
+open_after-requires c =
+    let known : day_of c.args.x ≡ Day c.in-Day.d = sym c.day_number.ensures ∙ c.in-Day.is in
+    let known_lt : c.in-Day.d < calendar_days = let p = day_of_day_lem _ _ known in rw p.1 (day_number_lt _ p.0) in
+    known_lt
+
+pub returns-in-Day : goal.returns-in-Day
+returns-in-Day c =
+    let known : day_of c.args.x ≡ Day c.in-Day.d = sym c.day_number.ensures ∙ c.in-Day.is in
+    c.open_after.ensures ∙ sym (business_days_after_day _ _ _ known)
+
+pub returns-in-NoDay : goal.returns-in-NoDay
+returns-in-NoDay c = sym (business_days_after_none _ _ (sym c.day_number.ensures ∙ c.in-NoDay.is))

@@ -1,0 +1,5 @@
+use borrow.Author.Rules.{rules}
+use Rattle.checking.proofs.checked.Goals as goal
+
+pub returns : goal.returns
+returns c = rw c.if-passed.false

@@ -1,0 +1,55 @@
+-- `kalanhav_take_event` meets its contract: refused for the count of the cells, or what `take_event` did. Assumes nothing.
+use Rattle.foreign.proofs.Laws.Books.{book_refused, event_done}
+use Rattle.cells.specs.Cells.{header_in}
+use Rattle.tables.specs.Ledger.{Ledger, ledger}
+use Rattle.common.proofs.Tests.{not_true, not_false}
+use mathlib.Core.Path.{refl}
+use borrow.Author.Rules.{rules}
+use Rattle.foreign.proofs.books.kalanhav_take_event.Goals as goal
+
+pub returns-then-not-cells_fit-event_cells_fit : goal.returns-then-not-cells_fit-event_cells_fit
+returns-then-not-cells_fit-event_cells_fit c =
+    let book : Ledger = ledger
+    (header_in c.args.state.now c.args.cents.now)
+    c.args.mandates.now
+    c.args.collections.now
+    c.args.creditors.now
+    c.args.creditor_positions.now
+    c.args.debtor_positions.now
+    c.args.bank_positions.now in
+    let s = c in
+    book_refused _ _ _ s.args.state.now s.args.cents.now book (rw (← c.cells_fit.ensures, ← c.event_cells_fit.ensures) (c.if-not-cells_fit-event_cells_fit.true))
+
+pub returns : goal.returns
+returns c =
+    let book : Ledger = ledger
+    (header_in c.args.state.now c.args.cents.now)
+    c.args.mandates.now
+    c.args.collections.now
+    c.args.creditors.now
+    c.args.creditor_positions.now
+    c.args.debtor_positions.now
+    c.args.bank_positions.now in
+    let taken = c in
+    let read = taken in
+    let test = read in
+    let s = test in
+    let o = taken.take_event-outcome in
+    event_done s.args.state.now s.args.cents.now s.args.event.now book
+    (rw (← test.cells_fit.ensures, ← test.event_cells_fit.ensures) (test.if-not-cells_fit-event_cells_fit.false))
+    read.header_in.result read.header_in.ensures
+    read.event_in.result read.event_in.ensures
+    refl
+    o.result
+    (ledger
+    o.result.header
+    o.new.mandates
+    o.new.collections
+    o.new.creditors
+    o.new.creditor_positions
+    o.new.debtor_positions
+    o.new.bank_positions)
+    refl
+    o.ensures
+    _ _ _
+    c.put_outcome.ensures

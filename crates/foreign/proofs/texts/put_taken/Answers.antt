@@ -1,0 +1,7 @@
+-- `put_taken` meets its contract: a header and counts are written. Assumes nothing.
+use borrow.Author.Rules.{rules}
+use Rattle.foreign.proofs.texts.put_taken.Goals as goal
+
+pub returns : goal.returns
+returns c =
+    record { state = rw (c.put_counts.ensures, c.put_header.ensures.state); cents = c.put_header.ensures.cents }

@@ -1,0 +1,14 @@
+use Rattle.index.specs.Index.{first_row, follow}
+use Rattle.index.proofs.Laws.Following.{follow_start, follow_none, follow_end, follow_hit, follow_next}
+use lib.ListN.{get_or}
+use mathlib.Core.Path.{◌≡◌, sym, ◌∙◌, ap}
+use native.Mathlib.Omega.{arith}
+use Prim.Native.Nat.{ℕ, ◌-◌, ◌<◌}
+use borrow.Author.Rules.{rules}
+use Rattle.index.proofs.first_row.Given as goal
+
+abbrev pub invariant-loop-left : goal.invariant-loop-left
+invariant-loop-left l = (l.k < 65536) × (first_row l.index l.cells l.number ≡ follow l.index l.cells l.number l.left l.k)
+
+abbrev pub decreases-loop-left : goal.decreases-loop-left
+decreases-loop-left l = l.left

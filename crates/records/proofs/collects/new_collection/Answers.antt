@@ -1,0 +1,6 @@
+use Rattle.records.proofs.Laws.Records.{new_collection_made}
+use borrow.Author.Rules.{rules}
+use Rattle.records.proofs.collects.new_collection.Goals as goal
+
+pub returns : goal.returns
+returns c = new_collection_made _ _ _ c.requires _ _ c.bank_of.ensures

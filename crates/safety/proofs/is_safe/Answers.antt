@@ -1,0 +1,101 @@
+-- `safety::is_safe` meets its contract: fitness first, then the sum of the rows, then each table. Assumes nothing.
+use mir.Syntax.{w64}
+use mir.Val.{to_z, of_z}
+use mir.Facts.{to_z-of_z}
+use mathlib.Core.Bool.{true}
+use mathlib.Core.Path.{◌≡◌, sym, ◌∙◌, ap}
+use Prim.Native.Nat.{ℕ, ◌^◌, ◌<◌}
+use borrow.Author.Rules.{rules}
+use borrow.Author.Tests.{not-true, not-false}
+use lib.IntN.{pos, neg_ℤ, ◌-ℤ◌}
+use Rattle.positions.proofs.Laws.Integers.{size_fits, bits_small, minus_small, minus_small_fits}
+use Rattle.fitness.specs.Fitness.{fit}
+use Rattle.tables.specs.Ledger.{Ledger, ledger}
+use Rattle.model.specs.Bounds.{spent}
+use Rattle.safety.specs.Safety.{between}
+use Rattle.safety.proofs.Laws.Safety.{unfit_unsafe, fit_bounded, bounded_tested, fit_rows, spent_small, spent_is}
+use Rattle.safety.proofs.is_safe.Goals as goal
+
+pub returns-then-not-is_fit : goal.returns-then-not-is_fit
+returns-then-not-is_fit c =
+    let book : Ledger = ledger
+    c.args.header
+    c.args.mandates.now
+    c.args.collections.now
+    c.args.creditors.now
+    c.args.creditor_positions.now
+    c.args.debtor_positions.now
+    c.args.bank_positions.now in
+    sym (unfit_unsafe book (sym c.is_fit.ensures ∙ c.if-not-is_fit.true))
+
+pub sum_moved-high-requires : goal.sum_moved-high-requires
+sum_moved-high-requires c =
+    let book : Ledger = ledger
+    c.args.header
+    c.args.mandates.now
+    c.args.collections.now
+    c.args.creditors.now
+    c.args.creditor_positions.now
+    c.args.debtor_positions.now
+    c.args.bank_positions.now in
+    let fitted : fit book ≡ true = sym c.is_fit.ensures ∙ c.if-not-is_fit.false in
+    fit_rows book fitted
+
+pub overflow_cast-high : goal.overflow_cast-high
+overflow_cast-high c =
+    let book : Ledger = ledger
+    c.args.header
+    c.args.mandates.now
+    c.args.collections.now
+    c.args.creditors.now
+    c.args.creditor_positions.now
+    c.args.debtor_positions.now
+    c.args.bank_positions.now in
+    let fitted : fit book ≡ true = sym c.is_fit.ensures ∙ c.if-not-is_fit.false in
+    let summed : c.sum_moved-high.result ≡ spent book = c.sum_moved-high.ensures ∙ spent_is book in
+    let small : c.sum_moved-high.result < 2 ^ 63 = rw summed (spent_small book fitted) in
+    size_fits (pos c.sum_moved-high.result) small
+
+pub overflow_sub-low : goal.overflow_sub-low
+overflow_sub-low c =
+    let book : Ledger = ledger
+    c.args.header
+    c.args.mandates.now
+    c.args.collections.now
+    c.args.creditors.now
+    c.args.creditor_positions.now
+    c.args.debtor_positions.now
+    c.args.bank_positions.now in
+    let fitted : fit book ≡ true = sym c.is_fit.ensures ∙ c.if-not-is_fit.false in
+    let summed : c.sum_moved-high.result ≡ spent book = c.sum_moved-high.ensures ∙ spent_is book in
+    let small : c.sum_moved-high.result < 2 ^ 63 = rw summed (spent_small book fitted) in
+    minus_small_fits c.sum_moved-high.result small
+
+pub returns : goal.returns
+returns c =
+    let book : Ledger = ledger
+    c.args.header
+    c.args.mandates.now
+    c.args.collections.now
+    c.args.creditors.now
+    c.args.creditor_positions.now
+    c.args.debtor_positions.now
+    c.args.bank_positions.now in
+    let fitted : fit book ≡ true = sym c.is_fit.ensures ∙ c.if-not-is_fit.false in
+    let summed : c.sum_moved-high.result ≡ spent book = c.sum_moved-high.ensures ∙ spent_is book in
+    let small : c.sum_moved-high.result < 2 ^ 63 = rw summed (spent_small book fitted) in
+    let lows : to_z w64 (of_z w64 (pos 0 -ℤ to_z w64 c.sum_moved-high.result)) ≡ neg_ℤ (pos (spent book)) = minus_small c.sum_moved-high.result small ∙ ap (λ (n : ℕ). neg_ℤ (pos n)) summed in
+    let highs : to_z w64 c.sum_moved-high.result ≡ pos (spent book) = bits_small c.sum_moved-high.result small ∙ ap pos summed in
+    let d = c in
+    let l = book in
+    let high = to_z w64 d.sum_moved-high.result in
+    let low = to_z w64 (of_z w64 (pos 0 -ℤ high)) in
+    let paid = to_z-of_z {w = w64} {z = l.compensation} (record { sfits = c.struct_told-1.given.1.1.1.0.1 }) in
+    let comp : c.is_between.result ≡ between low high l.compensation = c.is_between.ensures ∙ ap (between low high) paid in
+    rw (
+      c.all_between.ensures,
+      c.all_between-2.ensures,
+      c.all_between-3.ensures,
+      comp,
+    )
+    (bounded_tested l low high lows highs ∙ sym (fit_bounded l fitted))

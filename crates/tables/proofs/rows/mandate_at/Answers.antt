@@ -1,0 +1,19 @@
+use Rattle.tables.specs.Records.{mandate_from}
+use Rattle.tables.specs.Rows.{mandate_at}
+use Rattle.tables.proofs.rows.mandate_at.Goals as goal
+
+pub returns : goal.returns
+unfolding mandate_at mandate_from
+returns c =
+    rw (
+      c.standing_of-s.ensures,
+      c.cell.ensures,
+      c.cell-2.ensures,
+      c.cell-3.ensures,
+      c.cell-4.ensures,
+      c.cell-5.ensures,
+      c.cell-6.ensures,
+      c.cell-7.ensures,
+      c.cell-8.ensures,
+      c.cell-9.ensures,
+    )

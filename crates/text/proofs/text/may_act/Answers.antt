@@ -1,0 +1,6 @@
+use mathlib.Core.Path.{sym}
+use borrow.Author.Rules.{rules}
+use Rattle.text.proofs.text.may_act.Goals as goal
+
+pub returns-then-prepared : goal.returns-then-prepared
+returns-then-prepared c = sym (c.requires c.if-prepared.true).fits
