@@ -98,7 +98,7 @@ def expected():
     source = (CASES / "src" / "main.rt").read_text(encoding="utf-8")
     table = source[source.index("const DATES"):source.index("];")]
     lines = []
-    for x in (int(v) for v in re.findall(r"^ +(\d{8}),", table, re.M)):
+    for x in (int(v) for v in re.findall(r"\b(\d{8}),", table)):
         d = parsed(x)
         row = answers(d) if d is not None and FIRST <= d <= LAST else [0] * 9
         lines.append([x] + row)

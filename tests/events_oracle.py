@@ -80,7 +80,7 @@ def written(event, out):
 def main():
     text = open("crates/events_cases/src/main.rt", encoding="utf-8").read()
     put = sys.stdout.buffer.write
-    for literal in re.findall(r'read_back\(\s*(b"(?:[^"\\]|\\.)*"),?\s*\);', text):
+    for literal in re.findall(r'^    (b"(?:[^"\\]|\\.)*"),$', text, re.M):
         number, event = read(ast.literal_eval(literal))
         put(b"%d\n" % number)
         if number == 0:

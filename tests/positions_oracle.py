@@ -73,12 +73,12 @@ def main():
     for case in zip(column(text, "AMOUNTS"), column(text, "RATES"), column(text, "DAYS")):
         print(*case, compensated(*case))
         print(*case, products(*case))
-    for numbers in re.findall(r"show_products\(([\d, ]+)\);", text):
+    for numbers in re.findall(r"show_products\(rt, ([\d, ]+)\)", text):
         print(*integers(numbers), products(*integers(numbers)))
     table = {entry: 0 for entry in range(1, 5)}
-    for call, numbers in re.findall(r"show\((post|transfer)\(&mut t, ([-\d, ]+)\), &t\);", text):
+    for call, numbers in re.findall(r"show\(rt, (post|transfer)\(t, ([-\d, ]+)\), t\)", text):
         print(posted(table, moves(call, integers(numbers))), *table.values())
-    for call, numbers in re.findall(r"show_amounts\((settlement|reversed|refunded)\(([\d, ]+)\)\);", text):
+    for call, numbers in re.findall(r"show_amounts\(rt, (settlement|reversed|refunded)\(([\d, ]+)\)\)", text):
         print(*amounts(call, *integers(numbers)))
 
 

@@ -11,7 +11,7 @@ import sys
 ANSWER, POSITION = (6, 3), (2, 6, 18)  # the columns of each
 LIMIT = 10**16
 CALL = re.compile(r"""let\ mut\ (?P<name>\w+)\ =\ \*(?P<bytes>b"[^"]*");
-    | \b(?P<call>answer|position|answer_to|position_to|end)\((?:&mut\ (?P<buffer>\w+),\ |(?P<text>b"[^"]*"),\ )?(?P<numbers>[-\d,\ ]+)\);""", re.X)
+    | \b(?P<call>answer|position|answer_to|position_to|end)\(rt,\ (?:&mut\ (?P<buffer>\w+),\ |(?P<text>b"[^"]*"),\ )?(?P<numbers>[-\d,\ ]+)\)""", re.X)
 
 
 def placed(out, at, widths, values):
@@ -38,13 +38,13 @@ def bytes_of(found, buffers):
 
 
 def body(text, name):
-    return re.search(rf"^fn {name}\(\) \{{\n(.*?)^\}}", text, re.M | re.S).group(1)
+    return re.search(rf"^fn {name}\([^)]*\)[^{{]* \{{\n(.*?)^\}}", text, re.M | re.S).group(1)
 
 
 def main():
     with open("crates/report_cases/src/main.rt", encoding="utf-8") as file:
         text = file.read()
-    for part in re.findall(r"(\w+)\(\);", body(text, "main")):
+    for part in re.findall(r"(\w+)\(&rt\)", body(text, "main")):
         buffers = {}
         for found in CALL.finditer(body(text, part)):
             if found["name"]:

@@ -164,14 +164,14 @@ def arguments(text):
 
 
 def body(text, name):
-    return re.search(rf"^fn {name}\([^)]*\) \{{\n(.*?)^\}}", text, re.M | re.S).group(1)
+    return re.search(rf"^fn {name}\([^)]*\)[^{{]* \{{\n(.*?)^\}}", text, re.M | re.S).group(1)
 
 
 def main():
     with open("crates/tables_cases/src/main.rt", encoding="utf-8") as file:
         text = file.read()
-    for part in re.findall(r"^    (\w+)\([^)]*\);", body(text, "main"), re.M):
-        for call, name, values in re.findall(r'(\w+_case)\(\s*b"([^"]*)",(.*?),?\s*\);', body(text, part), re.S):
+    for part in re.findall(r"^    (\w+)\(&rt[^)]*\)", body(text, "main"), re.M):
+        for call, name, values in re.findall(r'(\w+_case)\(\s*rt,\s*"([^"]*)",(.*?),?\s*\)(?:\?;|$)', body(text, part), re.S):
             first, *more = CALLS[call](*arguments(values.strip()))
             print(f"{name}: {first}")
             for number in more:

@@ -7,7 +7,7 @@ ghost use Rattle.std.specs.Prelude.{◌<◌};
 use calendar::{
     BusinessDays, CalendarDays, DateAnswer, Months, Period, easter, gregorian, periods, target,
 };
-use libc::STDOUT_FILENO;
+use std::io;
 
 // Closing days and their neighbours, month ends, leap days and year ends; and numbers that are no dates.
 const DATES: [u64; 40] = [
@@ -25,13 +25,12 @@ const DATES: [u64; 40] = [
     21000229, 22000101,
 ];
 
-fn put(n: u64) {
-    io::print_decimal(STDOUT_FILENO, n);
-    io::write_all(STDOUT_FILENO, b" ");
+fn put(rt: &impl Print, n: u64) -> io::Result<()> {
+    print!(rt; "{n} ")
 }
 
-fn end_line() {
-    io::write_all(STDOUT_FILENO, b"\n");
+fn end_line(rt: &impl Print) -> io::Result<()> {
+    println!(rt; "")
 }
 
 // A date, or 0 where there is none.
@@ -76,19 +75,12 @@ fn answers(x: u64) -> [u64; 9] {
     ]
 }
 
-fn show(x: u64) {
-    let row = answers(x);
-    put(x);
-    put(row[0]);
-    put(row[1]);
-    put(row[2]);
-    put(row[3]);
-    put(row[4]);
-    put(row[5]);
-    put(row[6]);
-    put(row[7]);
-    put(row[8]);
-    end_line();
+fn show(rt: &impl Print, x: u64) -> io::Result<()> {
+    put(rt, x)?;
+    for v in answers(x) {
+        put(rt, v)?;
+    }
+    end_line(rt)
 }
 
 // One value more in a digest.
@@ -117,14 +109,30 @@ fn year_digest(start: u64) -> u64
     sum
 }
 
-fn main() {
-    for k in 0..40 {
-        show(DATES[k]);
-    }
+fn show_year(rt: &impl Print, year: u64) -> io::Result<()>
+    requires { year < 2200 }
+{
+    put(rt, year)?;
+    put(rt, shown(easter::easter_sunday(year)))?;
+    put(rt, year_digest(year * 10000))?;
+    end_line(rt)
+}
+
+fn show_years(rt: &impl Print) -> io::Result<()> {
     for y in 2000..2200 {
-        put(y);
-        put(shown(easter::easter_sunday(y)));
-        put(year_digest(y * 10000));
-        end_line();
+        show_year(rt, y)?;
     }
+    Ok(())
+}
+
+fn show_dates(rt: &impl Print) -> io::Result<()> {
+    for x in DATES {
+        show(rt, x)?;
+    }
+    Ok(())
+}
+
+fn main(rt: HostRuntime) -> io::Result<()> {
+    show_dates(&rt)?;
+    show_years(&rt)
 }

@@ -4,13 +4,12 @@
 
 use events::limits::Checked;
 use events::{Event, limits};
-use libc::STDOUT_FILENO;
 use lines::line;
 use lines::line::{LineAnswer, WriteAnswer};
+use std::io;
 
-fn put(n: u64) {
-    io::print_decimal(STDOUT_FILENO, n);
-    io::write_all(STDOUT_FILENO, b"\n");
+fn put(rt: &impl Print, n: u64) -> io::Result<()> {
+    println!(rt; "{n}")
 }
 
 fn written(a: WriteAnswer) -> u64 {
@@ -28,123 +27,129 @@ fn checked(a: Checked) -> u64 {
 }
 
 // A line's answer; of a line that is taken also the answer of writing its event, and the whole buffer after it.
-fn read_back(bytes: &[u8]) {
+fn read_back(rt: &impl Print, bytes: &[u8]) -> io::Result<()> {
     match line::read(bytes) {
-        LineAnswer::Refused(r) => {
-            put(refusals::number_of(r));
-        }
-        LineAnswer::Taken(e) => {
-            put(0);
-            let mut out =
-                *b"################################################################################";
-            put(written(line::write(e, &mut out)));
-            io::write_all(STDOUT_FILENO, &out);
-            io::write_all(STDOUT_FILENO, b"\n");
-        }
+        LineAnswer::Refused(r) => put(rt, refusals::number_of(r)),
+        LineAnswer::Taken(e) => write_back(rt, e),
     }
 }
 
-// The example of document 01.
-fn example() {
-    read_back(b" 1 20240325         0         1         1         0           0        0 0\n");
-    read_back(b" 2 20240325         7         1         5         2           0 20240325 0\n");
-    read_back(b" 5 20240325         7        70         0         0       10000 20240329 0\n");
-    read_back(b" 6 20240329         0        70         0         0           0        0 0\n");
-    read_back(b" 6 20240402         0        70         0         0           0        0 0\n");
-    read_back(b" 9 20240412         0        70       360         0           0        0 0\n");
-    read_back(b"10 20240412         0        70         0         0           0        0 0\n");
+fn write_back(rt: &impl Print, e: Event) -> io::Result<()> {
+    put(rt, 0)?;
+    let mut out = [b'#'; 80];
+    put(rt, written(line::write(e, &mut out)))?;
+    rt.write_all(&out)?;
+    println!(rt; "")
 }
+
+// The example of document 01.
+const EXAMPLE: [&[u8]; 7] = [
+    b" 1 20240325         0         1         1         0           0        0 0\n",
+    b" 2 20240325         7         1         5         2           0 20240325 0\n",
+    b" 5 20240325         7        70         0         0       10000 20240329 0\n",
+    b" 6 20240329         0        70         0         0           0        0 0\n",
+    b" 6 20240402         0        70         0         0           0        0 0\n",
+    b" 9 20240412         0        70       360         0           0        0 0\n",
+    b"10 20240412         0        70         0         0           0        0 0\n",
+];
 
 // Lines that are not as "The text line" says: refusal 1.
-fn broken_lines() {
+const BROKEN_LINES: [&[u8]; 22] = [
     // empty
-    read_back(b"");
+    b"",
     // only the end
-    read_back(b"\n");
+    b"\n",
     // no end
-    read_back(b" 1 20240325         0         1         1         0           0        0 0");
+    b" 1 20240325         0         1         1         0           0        0 0",
     // one byte short
-    read_back(b"1 20240325         0         1         1         0           0        0 0\n");
+    b"1 20240325         0         1         1         0           0        0 0\n",
     // one byte long
-    read_back(b" 1 20240325         0         1         1         0           0        0 0\n\n");
+    b" 1 20240325         0         1         1         0           0        0 0\n\n",
     // a blank before the end
-    read_back(b" 1 20240325         0         1         1         0           0        0 0 \n");
+    b" 1 20240325         0         1         1         0           0        0 0 \n",
     // byte 13 before byte 10
-    read_back(b" 1 20240325         0         1         1         0           0        0 0\r\n");
+    b" 1 20240325         0         1         1         0           0        0 0\r\n",
     // byte 13 for byte 10
-    read_back(b" 1 20240325         0         1         1         0           0        0 0\r");
+    b" 1 20240325         0         1         1         0           0        0 0\r",
     // a tab for a blank
-    read_back(b"\t1 20240325         0         1         1         0           0        0 0\n");
+    b"\t1 20240325         0         1         1         0           0        0 0\n",
     // a leading zero
-    read_back(b"01 20240325         0         1         1         0           0        0 0\n");
+    b"01 20240325         0         1         1         0           0        0 0\n",
     // zeros only
-    read_back(b"00 20240325         0         1         1         0           0        0 0\n");
+    b"00 20240325         0         1         1         0           0        0 0\n",
     // a zero before a long number
-    read_back(b" 1020240325         0         1         1         0           0        0 0\n");
+    b" 1020240325         0         1         1         0           0        0 0\n",
     // a blank after a digit
-    read_back(b"1  20240325         0         1         1         0           0        0 0\n");
+    b"1  20240325         0         1         1         0           0        0 0\n",
     // a blank between digits
-    read_back(b" 1 2024 325         0         1         1         0           0        0 0\n");
+    b" 1 2024 325         0         1         1         0           0        0 0\n",
     // an empty field
-    read_back(b"   20240325         0         1         1         0           0        0 0\n");
+    b"   20240325         0         1         1         0           0        0 0\n",
     // an empty last field
-    read_back(b" 1 20240325         0         1         1         0           0        0  \n");
+    b" 1 20240325         0         1         1         0           0        0  \n",
     // a letter
-    read_back(b" a 20240325         0         1         1         0           0        0 0\n");
+    b" a 20240325         0         1         1         0           0        0 0\n",
     // a sign
-    read_back(b"-1 20240325         0         1         1         0           0        0 0\n");
+    b"-1 20240325         0         1         1         0           0        0 0\n",
     // the bytes beside the digits
-    read_back(b" / 20240325         0         1         1         0           0        0 0\n");
-    read_back(b" : 20240325         0         1         1         0           0        0 0\n");
+    b" / 20240325         0         1         1         0           0        0 0\n",
+    b" : 20240325         0         1         1         0           0        0 0\n",
     // byte 0
-    read_back(b" \x00 20240325         0         1         1         0           0        0 0\n");
+    b" \x00 20240325         0         1         1         0           0        0 0\n",
     // byte 255
-    read_back(b" \xff 20240325         0         1         1         0           0        0 0\n");
-}
+    b" \xff 20240325         0         1         1         0           0        0 0\n",
+];
 
 // Sound lines outside their limits: refusals 3, 4 and 5, the first that applies.
-fn refused_lines() {
+const REFUSED_LINES: [&[u8]; 14] = [
     // kind 0
-    read_back(b" 0 20240325         0         1         1         0           0        0 0\n");
+    b" 0 20240325         0         1         1         0           0        0 0\n",
     // kind 11
-    read_back(b"11 20240325         0         1         1         0           0        0 0\n");
+    b"11 20240325         0         1         1         0           0        0 0\n",
     // kind 99, date and fields bad too
-    read_back(b"99 20230229         0         0         0         0           0        0 0\n");
+    b"99 20230229         0         0         0         0           0        0 0\n",
     // nine digits of date
-    read_back(b" 1202403251         0         1         1         0           0        0 0\n");
+    b" 1202403251         0         1         1         0           0        0 0\n",
     // no day
-    read_back(b" 1 20230229         0         1         1         0           0        0 0\n");
+    b" 1 20230229         0         1         1         0           0        0 0\n",
     // before the range
-    read_back(b" 1 20091231         0         1         1         0           0        0 0\n");
+    b" 1 20091231         0         1         1         0           0        0 0\n",
     // after the range
-    read_back(b" 1 21900101         0         1         1         0           0        0 0\n");
+    b" 1 21900101         0         1         1         0           0        0 0\n",
     // date 0, and a field bad too
-    read_back(b" 1        0         0         0         1         0           0        0 0\n");
+    b" 1        0         0         0         1         0           0        0 0\n",
     // an unnamed field
-    read_back(b" 1 20240325         0         1         1         1           0        0 0\n");
+    b" 1 20240325         0         1         1         1           0        0 0\n",
     // a mandate of ten digits
-    read_back(b" 4 202403251000000000         0         0         0           0        0 0\n");
+    b" 4 202403251000000000         0         0         0           0        0 0\n",
     // a signing date after the event
-    read_back(b" 2 20240325         7         1         5         2           0 20240326 0\n");
+    b" 2 20240325         7         1         5         2           0 20240326 0\n",
     // no signing date
-    read_back(b" 2 20240325         7         1         5         2           0        0 0\n");
+    b" 2 20240325         7         1         5         2           0        0 0\n",
     // a code that the kind does not have
-    read_back(b" 5 20240325         7        70         0         0       10000 20240329 4\n");
+    b" 5 20240325         7        70         0         0       10000 20240329 4\n",
     // a code where none is named
-    read_back(b" 6 20240325         0        70         0         0           0        0 1\n");
-}
+    b" 6 20240325         0        70         0         0           0        0 1\n",
+];
 
 // Lines at their limits: taken.
-fn full_lines() {
+const FULL_LINES: [&[u8]; 5] = [
     // the largest numbers
-    read_back(b" 2 21891231 999999999       256      4096        64           0 21891231 1\n");
+    b" 2 21891231 999999999       256      4096        64           0 21891231 1\n",
     // amend, code 0 and 1
-    read_back(b" 3 20100101 999999999         0         0        64           0        0 0\n");
-    read_back(b" 3 20100101 999999999       256         0         0           0        0 1\n");
+    b" 3 20100101 999999999         0         0        64           0        0 0\n",
+    b" 3 20100101 999999999       256         0         0           0        0 1\n",
     // the largest amount
-    read_back(b" 5 20240229         1 999999999         0         0 99999999999 20100101 3\n");
+    b" 5 20240229         1 999999999         0         0 99999999999 20100101 3\n",
     // the largest rate
-    read_back(b" 9 20240325         0         1      9999         0           0        0 1\n");
+    b" 9 20240325         0         1      9999         0           0        0 1\n",
+];
+
+fn read_lines(rt: &impl Print, lines: &[&[u8]]) -> io::Result<()> {
+    for bytes in lines {
+        read_back(rt, bytes)?;
+    }
+    Ok(())
 }
 
 fn event(kind: u64, date: u64, a: u64) -> Event {
@@ -162,35 +167,28 @@ fn event(kind: u64, date: u64, a: u64) -> Event {
 }
 
 // An event written to a buffer, and the buffer after it.
-fn write_to(e: Event, out: &mut [u8]) {
-    put(written(line::write(e, out)));
-    io::write_all(STDOUT_FILENO, out);
-    io::write_all(STDOUT_FILENO, b"|\n");
+fn write_to(rt: &impl Print, e: Event, out: &mut [u8]) -> io::Result<()> {
+    put(rt, written(line::write(e, out)))?;
+    rt.write_all(out)?;
+    println!(rt; "|")
 }
 
 // The writer: refusals 2, 3, 4 and 5, the first that applies, leave the buffer; else 75 bytes of it are the line.
-fn writer() {
-    let mut none = *b"";
-    write_to(event(1, 20240325, 1), &mut none);
-    let mut short = *b"..........................................................................";
-    write_to(event(1, 20240325, 1), &mut short);
-    write_to(event(0, 0, 0), &mut short);
-    let mut room = *b"...........................................................................";
-    write_to(event(0, 0, 0), &mut room);
-    write_to(event(1, 0, 0), &mut room);
-    write_to(event(1, 20240325, 0), &mut room);
-    write_to(event(1, 20240325, 257), &mut room);
-    write_to(
-        event(
-            18446744073709551615,
-            18446744073709551615,
-            18446744073709551615,
-        ),
-        &mut room,
-    );
-    write_to(event(1, 20240325, 1), &mut room);
-    let mut more = *b"............................................................................";
-    write_to(event(1, 20240325, 256), &mut more);
+fn writer(rt: &impl Print) -> io::Result<()> {
+    let mut none = [b'.'; 0];
+    write_to(rt, event(1, 20240325, 1), &mut none)?;
+    let mut short = [b'.'; 74];
+    write_to(rt, event(1, 20240325, 1), &mut short)?;
+    write_to(rt, event(0, 0, 0), &mut short)?;
+    let mut room = [b'.'; 75];
+    write_to(rt, event(0, 0, 0), &mut room)?;
+    write_to(rt, event(1, 0, 0), &mut room)?;
+    write_to(rt, event(1, 20240325, 0), &mut room)?;
+    write_to(rt, event(1, 20240325, 257), &mut room)?;
+    write_to(rt, event(u64::MAX, u64::MAX, u64::MAX), &mut room)?;
+    write_to(rt, event(1, 20240325, 1), &mut room)?;
+    let mut more = [b'.'; 76];
+    write_to(rt, event(1, 20240325, 256), &mut more)
 }
 
 const MANDATES: [u64; 4] = [0, 1, 999999999, 1000000000];
@@ -222,29 +220,26 @@ fn nth(kind: u64, code: u64, k: usize) -> Event {
 
 // How many of the 15,360 events of a kind and a code get an answer.
 fn answered(kind: u64, code: u64, number: u64) -> u64 {
-    let mut n = 0;
-    for k in 0..15360 {
-        if checked(limits::check(nth(kind, code, k))) == number {
-            n += 1;
-        }
-    }
-    n
+    (0..15360)
+        .filter(|k| checked(limits::check(nth(kind, code, *k))) == number)
+        .count() as u64
 }
 
 // For each kind and code around those that there are: how many events are within their limits, and how many get 3 and 5.
-fn limits_of_kinds() {
+fn limits_of_kinds(rt: &impl Print) -> io::Result<()> {
     for k in 0..72 {
-        put(answered(k / 6, k % 6, 0));
-        put(answered(k / 6, k % 6, 3));
-        put(answered(k / 6, k % 6, 5));
+        put(rt, answered(k / 6, k % 6, 0))?;
+        put(rt, answered(k / 6, k % 6, 3))?;
+        put(rt, answered(k / 6, k % 6, 5))?;
     }
+    Ok(())
 }
 
-fn main() {
-    example();
-    broken_lines();
-    refused_lines();
-    full_lines();
-    writer();
-    limits_of_kinds();
+fn main(rt: HostRuntime) -> io::Result<()> {
+    read_lines(&rt, &EXAMPLE)?;
+    read_lines(&rt, &BROKEN_LINES)?;
+    read_lines(&rt, &REFUSED_LINES)?;
+    read_lines(&rt, &FULL_LINES)?;
+    writer(&rt)?;
+    limits_of_kinds(&rt)
 }

@@ -10,7 +10,6 @@ ghost use Rattle.run.specs.Run.{run_at, clipped_length};
 ghost use Rattle.ledger.specs.Input.{filled_after, FilledBy, Behind, Given, Turned, InputTaken};
 ghost use Rattle.ledger.specs.Program.{Begins, LastRoom, Finished, Shown};
 
-use libc::STDERR_FILENO;
 use listing::ending::end_text;
 use listing::listing::list_positions;
 use listing::past::{goes_past, lines_past};
@@ -73,23 +72,23 @@ fn filled_by(partial: usize, got: Got) -> Filled
 }
 
 // Reads once behind the partial line.
-fn fill(text: &mut [u8], partial: usize) -> Filled
+fn fill(rt: HostRuntime, text: &mut [u8], partial: usize) -> Filled
     requires { partial < length text.old }
     ensures { Behind partial text.old result.bytes text.new }
 {
-    let got = read_behind(text, partial);
+    let got = read_behind(rt, text, partial);
     filled_by(partial, got)
 }
 
 // Writes the first bytes of a buffer if the run is whole, and says whether it still is.
-fn send(whole: bool, out: &[u8], bytes: usize) -> bool
+fn send(rt: HostRuntime, whole: bool, out: &[u8], bytes: usize) -> bool
     requires { bytes ≤ length out.now }
     ensures { (whole ≡ false → result ≡ false) × (bytes ≡ 0 → result ≡ whole) }
 {
     if !whole {
         return false;
     }
-    write_whole(&out[..bytes])
+    write_whole(rt, &out[..bytes])
 }
 
 // Answers the lines that have ended in the first `filled` bytes of the text.
@@ -145,6 +144,7 @@ fn goes_on(partial: usize, filled: usize, beyond: bool, whole: bool) -> bool
 // The whole input, piece by piece, until it ends, goes past the last line that is answered, or a stream fails. A proved loop
 // has to end, and nothing says that the input does: so the loop counts its turns down from a number that no run uses up.
 fn take_input(
+    rt: HostRuntime,
     header: Header,
     text: &mut [u8],
     out: &mut [u8],
@@ -172,7 +172,7 @@ fn take_input(
     while (0 < turns) & more {
         turns -= 1;
         let partial = p.partial;
-        let read = fill(text, partial);
+        let read = fill(rt, text, partial);
         let filled = read.bytes;
         p = take_piece(
             p,
@@ -186,20 +186,21 @@ fn take_input(
             debtor_positions,
             bank_positions,
         );
-        p.whole = send(read.whole, out, p.written);
+        p.whole = send(rt, read.whole, out, p.written);
         more = goes_on(partial, filled, p.beyond, p.whole);
     }
     p
 }
 
 // Says that lines past the last that is answered were not read.
-fn say_past() {
-    io::write_all(STDERR_FILENO, b"ledger: lines past 999999 were not read\n");
+fn say_past(rt: HostRuntime) {
+    let _ = eprintln!(rt; "ledger: lines past 999999 were not read");
 }
 
 // Answers a partial line where the input ends, lists the positions behind, and writes both if the run is whole; says it if
 // there was more input. Gives the bytes of both.
 fn finish(
+    rt: HostRuntime,
     p: Stage,
     out: &mut [u8],
     mandates: &[u64],
@@ -226,8 +227,8 @@ fn finish(
         &mut out[written..],
     );
     let bytes = written + listing.bytes;
-    if send(p.whole, out, bytes) & p.beyond {
-        say_past();
+    if send(rt, p.whole, out, bytes) & p.beyond {
+        say_past(rt);
     }
     bytes
 }
@@ -235,6 +236,7 @@ fn finish(
 // The lines of the input, and then the positions, by a text and a buffer for answers; gives the last bytes that are to be
 // written, and are where the run is whole.
 fn run_by(
+    rt: HostRuntime,
     header: Header,
     text: &mut [u8; TEXT],
     out: &mut [u8; OUT],
@@ -249,6 +251,7 @@ fn run_by(
     ensures { Shown (ledger header mandates.old collections.old creditors.old creditor_positions.old debtor_positions.old bank_positions.old) result out.new }
 {
     let p = take_input(
+        rt,
         header,
         text,
         out,
@@ -260,6 +263,7 @@ fn run_by(
         bank_positions,
     );
     finish(
+        rt,
         p,
         out,
         mandates,
@@ -273,6 +277,7 @@ fn run_by(
 
 // Lends the text and the buffer.
 fn run(
+    rt: HostRuntime,
     header: Header,
     mandates: &mut [u64],
     collections: &mut [u64],
@@ -286,6 +291,7 @@ fn run(
     let mut text = [0u8; TEXT];
     let mut out = [0u8; OUT];
     run_by(
+        rt,
         header,
         &mut text,
         &mut out,
@@ -299,7 +305,7 @@ fn run(
 }
 
 // Lends the rows, opens the ledger on them and runs.
-fn main() {
+fn main(rt: HostRuntime) {
     let mut mandates = [0u64; MANDATES * STRIDE];
     let mut collections = [0u64; COLLECTIONS * STRIDE];
     let mut creditors = [0u64; 256];
@@ -326,6 +332,7 @@ fn main() {
         return;
     };
     run(
+        rt,
         opened.header,
         &mut mandates,
         &mut collections,

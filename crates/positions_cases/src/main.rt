@@ -7,6 +7,7 @@ use positions::compensation::{compensation, rate_days, rate_days_amount};
 use positions::posting::{post, transfer};
 use positions::{CompensationAnswer, PostAnswer, PostingsAnswer, ProductAnswer};
 use refusals::number_of;
+use std::io;
 
 // Amount, rate and days of each case: the worked cases of document 01, the limits, numbers chosen at random, exact halves.
 const AMOUNTS: [u64; 60] = [
@@ -198,172 +199,134 @@ const DAYS: [u64; 60] = [
     430,
 ];
 
-fn print_signed(z: i64) {
-    if z < 0 {
-        io::write_all(1, b"-");
-        io::print_decimal(1, (-(z + 1)) as u64 + 1);
-        return;
-    }
-    io::print_decimal(1, z as u64);
-    return;
+fn show_values(rt: &impl Print, amount: u64, rate: u64, days: u64) -> io::Result<()> {
+    print!(rt; "{amount} {rate} {days} ")
 }
 
-fn show_values(amount: u64, rate: u64, days: u64) {
-    io::print_decimal(1, amount);
-    io::write_all(1, b" ");
-    io::print_decimal(1, rate);
-    io::write_all(1, b" ");
-    io::print_decimal(1, days);
-    io::write_all(1, b" ");
-}
-
-fn show_compensation(amount: u64, rate: u64, days: u64) {
-    show_values(amount, rate, days);
+fn show_compensation(rt: &impl Print, amount: u64, rate: u64, days: u64) -> io::Result<()> {
+    show_values(rt, amount, rate, days)?;
     match compensation(amount, rate, days) {
-        CompensationAnswer::Cents(k) => {
-            io::print_decimal(1, k);
-        }
-        CompensationAnswer::OutsideLimits => {
-            io::write_all(1, b"outside");
-        }
+        CompensationAnswer::Cents(k) => println!(rt; "{k}"),
+        CompensationAnswer::OutsideLimits => println!(rt; "outside"),
     }
-    io::write_all(1, b"\n");
 }
 
-fn show_product(answer: ProductAnswer) {
+fn show_product(rt: &impl Print, answer: ProductAnswer) -> io::Result<()> {
     match answer {
-        ProductAnswer::Product(p) => {
-            io::write_all(1, b"product ");
-            io::print_decimal(1, p);
-        }
-        ProductAnswer::Refused(r) => {
-            io::write_all(1, b"refused ");
-            io::print_decimal(1, number_of(r));
-        }
+        ProductAnswer::Product(p) => print!(rt; "product {p}"),
+        ProductAnswer::Refused(r) => print!(rt; "refused {}", number_of(r)),
     }
 }
 
 // Both products, that of days and rate first.
-fn show_products(amount: u64, rate: u64, days: u64) {
-    show_values(amount, rate, days);
-    show_product(rate_days(days, rate));
-    io::write_all(1, b" ");
-    show_product(rate_days_amount(days, rate, amount));
-    io::write_all(1, b"\n");
+fn show_products(rt: &impl Print, amount: u64, rate: u64, days: u64) -> io::Result<()> {
+    show_values(rt, amount, rate, days)?;
+    show_product(rt, rate_days(days, rate))?;
+    print!(rt; " ")?;
+    show_product(rt, rate_days_amount(days, rate, amount))?;
+    println!(rt; "")
 }
 
-fn show_case(amount: u64, rate: u64, days: u64) {
-    show_compensation(amount, rate, days);
-    show_products(amount, rate, days);
+fn show_case(rt: &impl Print, amount: u64, rate: u64, days: u64) -> io::Result<()> {
+    show_compensation(rt, amount, rate, days)?;
+    show_products(rt, amount, rate, days)
 }
 
-fn show_cases() {
-    let mut i: usize = 0;
-    while i < 60 {
-        show_case(AMOUNTS[i], RATES[i], DAYS[i]);
-        i += 1;
+fn show_cases(rt: &impl Print) -> io::Result<()> {
+    for i in 0..60 {
+        show_case(rt, AMOUNTS[i], RATES[i], DAYS[i])?;
     }
+    Ok(())
 }
 
-fn show_answer(answer: PostAnswer) {
+fn show_answer(rt: &impl Print, answer: PostAnswer) -> io::Result<()> {
     match answer {
-        PostAnswer::Posted => {
-            io::write_all(1, b"posted");
-        }
-        PostAnswer::NoEntry => {
-            io::write_all(1, b"no entry");
-        }
-        PostAnswer::TooLarge => {
-            io::write_all(1, b"too large");
-        }
+        PostAnswer::Posted => print!(rt; "posted"),
+        PostAnswer::NoEntry => print!(rt; "no entry"),
+        PostAnswer::TooLarge => print!(rt; "too large"),
     }
 }
 
-fn show(answer: PostAnswer, t: &[i64; 4]) {
-    show_answer(answer);
-    io::write_all(1, b" ");
-    print_signed(t[0]);
-    io::write_all(1, b" ");
-    print_signed(t[1]);
-    io::write_all(1, b" ");
-    print_signed(t[2]);
-    io::write_all(1, b" ");
-    print_signed(t[3]);
-    io::write_all(1, b"\n");
+fn show(rt: &impl Print, answer: PostAnswer, t: &[i64; 4]) -> io::Result<()> {
+    let [a, b, c, d] = *t;
+    show_answer(rt, answer)?;
+    println!(rt; " {a} {b} {c} {d}")
 }
 
-fn show_postings() {
+fn show_posts(rt: &impl Print, t: &mut [i64; 4]) -> io::Result<()> {
+    show(rt, post(t, 1, 500), t)?;
+    show(rt, post(t, 4, -700), t)?;
+    show(rt, post(t, 0, 5), t)?;
+    show(rt, post(t, 5, 5), t)?;
+    show(rt, post(t, 2, 4000000000000000001), t)?;
+    show(rt, post(t, 2, -4000000000000000001), t)?;
+    show(rt, post(t, 2, 4000000000000000000), t)?;
+    show(rt, post(t, 2, 1), t)?;
+    show(rt, post(t, 2, -1), t)
+}
+
+fn show_transfers(rt: &impl Print, t: &mut [i64; 4]) -> io::Result<()> {
+    show(rt, transfer(t, 1, 4, 200), t)?;
+    show(rt, transfer(t, 3, 3, 9), t)?;
+    show(rt, transfer(t, 1, 5, 1), t)?;
+    show(rt, transfer(t, 0, 1, 1), t)?;
+    show(rt, transfer(t, 2, 1, 1), t)?;
+    show(rt, transfer(t, 1, 2, 1), t)?;
+    show(rt, transfer(t, 4, 1, -100), t)?;
+    show(rt, transfer(t, 4, 4, -7), t)?;
+    show(rt, post(t, 3, -1), t)
+}
+
+fn show_postings(rt: &impl Print) -> io::Result<()> {
     let mut t: [i64; 4] = [0, 0, 0, 0];
-    show(post(&mut t, 1, 500), &t);
-    show(post(&mut t, 4, -700), &t);
-    show(post(&mut t, 0, 5), &t);
-    show(post(&mut t, 5, 5), &t);
-    show(post(&mut t, 2, 4000000000000000001), &t);
-    show(post(&mut t, 2, -4000000000000000001), &t);
-    show(post(&mut t, 2, 4000000000000000000), &t);
-    show(post(&mut t, 2, 1), &t);
-    show(post(&mut t, 2, -1), &t);
-    show(transfer(&mut t, 1, 4, 200), &t);
-    show(transfer(&mut t, 3, 3, 9), &t);
-    show(transfer(&mut t, 1, 5, 1), &t);
-    show(transfer(&mut t, 0, 1, 1), &t);
-    show(transfer(&mut t, 2, 1, 1), &t);
-    show(transfer(&mut t, 1, 2, 1), &t);
-    show(transfer(&mut t, 4, 1, -100), &t);
-    show(transfer(&mut t, 4, 4, -7), &t);
-    show(post(&mut t, 3, -1), &t);
+    show_posts(rt, &mut t)?;
+    show_transfers(rt, &mut t)
 }
 
-fn show_amounts(answer: PostingsAnswer) {
+fn show_amounts(rt: &impl Print, answer: PostingsAnswer) -> io::Result<()> {
     match answer {
-        PostingsAnswer::Amounts(p) => {
-            print_signed(p.debtor);
-            io::write_all(1, b" ");
-            print_signed(p.creditor);
-            io::write_all(1, b" ");
-            print_signed(p.dbank);
-            io::write_all(1, b" ");
-            print_signed(p.cbank);
-            io::write_all(1, b" ");
-            print_signed(p.compensation);
-        }
-        PostingsAnswer::OutsideLimits => {
-            io::write_all(1, b"outside");
-        }
+        PostingsAnswer::Amounts(p) => println!(rt;
+            "{} {} {} {} {}",
+            p.debtor, p.creditor, p.dbank, p.cbank, p.compensation
+        ),
+        PostingsAnswer::OutsideLimits => println!(rt; "outside"),
     }
-    io::write_all(1, b"\n");
 }
 
 // Products of 0, each number past its limit alone, also where the product would be 0, amounts of a row on both sides of the most that
 // document 02, (a), leaves to a collect, and products that would wrap to 0.
-fn show_limits() {
-    show_products(1, 0, 0);
-    show_products(1, 9999, 1000);
-    show_products(1, 10000, 999);
-    show_products(1, 10000, 0);
-    show_products(1, 0, 1000);
-    show_products(5000000, 360, 1);
-    show_products(5000001, 360, 1);
-    show_products(100000000000, 9999, 999);
-    show_products(18446744073709551615, 1, 1);
-    show_products(1, 18446744073709551615, 1);
-    show_products(1, 1, 18446744073709551615);
-    show_products(1, 4294967296, 4294967296);
-    show_products(9223372036854775808, 2, 1);
+fn show_limits(rt: &impl Print) -> io::Result<()> {
+    show_products(rt, 1, 0, 0)?;
+    show_products(rt, 1, 9999, 1000)?;
+    show_products(rt, 1, 10000, 999)?;
+    show_products(rt, 1, 10000, 0)?;
+    show_products(rt, 1, 0, 1000)?;
+    show_products(rt, 5000000, 360, 1)?;
+    show_products(rt, 5000001, 360, 1)?;
+    show_products(rt, 100000000000, 9999, 999)?;
+    show_products(rt, 18446744073709551615, 1, 1)?;
+    show_products(rt, 1, 18446744073709551615, 1)?;
+    show_products(rt, 1, 1, 18446744073709551615)?;
+    show_products(rt, 1, 4294967296, 4294967296)?;
+    show_products(rt, 9223372036854775808, 2, 1)
 }
 
-fn main() {
-    show_cases();
-    show_limits();
-    show_postings();
-    show_amounts(settlement(10000));
-    show_amounts(reversed(10000));
-    show_amounts(refunded(10000, 10));
-    show_amounts(settlement(99999999999));
-    show_amounts(settlement(100000000000));
-    show_amounts(reversed(0));
-    show_amounts(reversed(18446744073709551615));
-    show_amounts(refunded(99999999999, 277472249997));
-    show_amounts(refunded(99999999999, 277472249998));
-    show_amounts(refunded(100000000000, 0));
+fn show_events(rt: &impl Print) -> io::Result<()> {
+    show_amounts(rt, settlement(10000))?;
+    show_amounts(rt, reversed(10000))?;
+    show_amounts(rt, refunded(10000, 10))?;
+    show_amounts(rt, settlement(99999999999))?;
+    show_amounts(rt, settlement(100000000000))?;
+    show_amounts(rt, reversed(0))?;
+    show_amounts(rt, reversed(18446744073709551615))?;
+    show_amounts(rt, refunded(99999999999, 277472249997))?;
+    show_amounts(rt, refunded(99999999999, 277472249998))?;
+    show_amounts(rt, refunded(100000000000, 0))
+}
+
+fn main(rt: HostRuntime) -> io::Result<()> {
+    show_cases(&rt)?;
+    show_limits(&rt)?;
+    show_postings(&rt)?;
+    show_events(&rt)
 }

@@ -1,5 +1,6 @@
--- What a read and a write give. Nothing says which bytes come in or go out. Assumes nothing.
-use Rattle.std.specs.Prelude.{◌≡◌, Bool, true, cond, ◌&&◌, ◌||◌, List, ℕ, ◌+◌, ◌≤◌, ◌<◌, ℤ, pos, length, take}
+-- What a read and a write give, and where bytes are known, which. Assumes nothing.
+use Rattle.std.specs.Prelude.{◌≡◌, Bool, true, false, cond, ◌&&◌, ◌||◌, List, ℕ, ◌+◌, ◌≤◌, ◌<◌, ℤ, pos, Option, length, take, slice_range}
+use Rattle.std.specs.Io.KnownBytes.{Keeps, Appends, Consumes, IsAtEnd}
 use Rattle.std.specs.Int.Signed.{le_z, lt_z}
 use Rattle.streams.specs.declared.Got.{Got}
 use Rattle.streams.specs.declared.Got.TheVariants.{Bytes, End, Failed}
@@ -35,3 +36,17 @@ pub record ReadBehind (from : ℕ) (buffer : List ℕ) (r : Got) (buffer' : List
 -- where there is nothing to write, all of it is written
 abbrev pub WholeWhenEmpty : ℕ → Bool → Type 0
 WholeWhenEmpty bytes r = bytes ≡ 0 → r ≡ true
+
+-- ---- bytes that are known, as those of a reader over memory: what it has left, and what a writer holds. Of standard input and
+-- output none is known, and then nothing is said
+
+-- what was read are the next bytes of the input; none is left at the end, and a read that failed took none
+abbrev pub ReadOnce : Option (List ℕ) → Option (List ℕ) → ℕ → List ℕ → Got → Type 0
+ReadOnce left left' from buffer' (Bytes n) = Consumes left left' (slice_range buffer' from (from + n))
+ReadOnce left left' from buffer' End = Keeps left left' × IsAtEnd left'
+ReadOnce left left' from buffer' Failed = Keeps left left'
+
+-- all bytes are written, each once and in their order; where that failed, the first of them
+abbrev pub WrittenOnce : Option (List ℕ) → Option (List ℕ) → List ℕ → Bool → Type 0
+WrittenOnce held held' bytes true = Appends held held' bytes
+WrittenOnce held held' bytes false = (n : ℕ) × (n ≤ length bytes) × Appends held held' (take n bytes)

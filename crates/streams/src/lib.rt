@@ -1,13 +1,21 @@
 // Standard input and output. A call that was interrupted is made again at once, one that would block after a pause; one that
-// fails otherwise ends the stream, and a line on standard error says why. Nothing says which bytes come or go: specs/Streams
-// says what can be said.
+// fails otherwise ends the stream, and a line on standard error says why. Which bytes the system gives and takes nothing says; of
+// an input or output whose bytes are known each is read or written once (specs/Streams).
 #![tactic(auto)]
 
-ghost use Rattle.streams.specs.Streams.{is_error, is_passing, said_by, ReadBehind, WholeWhenEmpty};
-ghost use Rattle.std.specs.Prelude.{◌≡◌, length};
+ghost use Rattle.streams.specs.Streams.{is_error, is_passing, said_by, ReadBehind, WholeWhenEmpty, ReadOnce, WrittenOnce};
+ghost use Rattle.std.specs.Prelude.{◌≡◌, false, length, MatchOption};
+ghost use Rattle.std.specs.IoError.{raw_os_error};
 
-use libc::types::timespec;
-use libc::{EAGAIN, EINTR, STDIN_FILENO, STDOUT_FILENO};
+use std::fmt::InlineText;
+use std::io::{Error, Read, Write};
+use std::thread;
+use std::time::Duration;
+
+// Linux's numbers of two errors: a call would have had to wait, or was interrupted.
+const EAGAIN: i32 = 11;
+
+const EINTR: i32 = 4;
 
 // What a read gave: so many bytes, the end of the input, or nothing since it failed.
 #[derive(Clone, Copy)]
@@ -18,16 +26,19 @@ pub enum Got {
 }
 
 // Waits ten milliseconds.
-fn pause() {
-    let asked = timespec {
-        tv_sec: 0,
-        tv_nsec: 10_000_000,
+fn pause(rt: HostRuntime) {
+    thread::sleep(&rt, Duration::from_millis(10));
+}
+
+// Says on standard error that the stream of this name failed, and why, in the system's words without std's number behind them.
+fn say_failed(rt: HostRuntime, name: &str, error: Error) {
+    let described = InlineText::<320>::of(error);
+    let text = described.as_str();
+    let reason = match text.rsplit_once(" (os error ") {
+        Some((words, _)) => words,
+        None => text,
     };
-    let mut left = timespec {
-        tv_sec: 0,
-        tv_nsec: 0,
-    };
-    libc::nanosleep(&asked, &mut left);
+    let _ = eprintln!(rt; "{name}: {reason}");
 }
 
 fn is_error(error: i32, number: i32) -> bool
@@ -43,16 +54,18 @@ fn is_passing(error: i32) -> bool
     is_error(error, EAGAIN) | is_error(error, EINTR)
 }
 
-// Whether the call that failed just now is made again, then after a pause where it would have had to wait. Where it is
+// Whether the call that failed by this error is made again, then after a pause where it would have had to wait. Where it is
 // not, says why.
-fn tries_again(stream: &[u8]) -> bool {
-    let error = os::errno();
-    if !is_passing(error) {
-        os::fail(stream);
+fn tries_again(rt: HostRuntime, name: &str, error: Error) -> bool
+    ensures { MatchOption (raw_os_error error) (result ≡ false) (λ number. result ≡ is_passing number) }
+{
+    let number = error.raw_os_error().unwrap_or(0);
+    if !is_passing(number) {
+        say_failed(rt, name, error);
         return false;
     }
-    if is_error(error, EAGAIN) {
-        pause();
+    if is_error(number, EAGAIN) {
+        pause(rt);
     }
     true
 }
@@ -70,41 +83,65 @@ fn said(answer: isize, bytes: usize) -> Got
     Got::Bytes(bytes)
 }
 
-// Reads once behind the first `from` bytes of the buffer, which stay as they are; it fails where there is no room behind them.
-pub fn read_behind(buffer: &mut [u8], from: usize) -> Got
-    ensures { ReadBehind from buffer.old result buffer.new }
+// Reads once from an input of this name, behind the first `from` bytes of the buffer, which stay as they are; it fails where
+// there is no room behind them. No byte of the input is lost, and none is read twice.
+pub fn read_from<R: Read>(
+    rt: HostRuntime,
+    name: &str,
+    input: &mut R,
+    buffer: &mut [u8],
+    from: usize,
+) -> Got
+    ensures behind { ReadBehind from buffer.old result buffer.new }
+    ensures bytes { ReadOnce (R.remaining input.old) (R.remaining input.new) from buffer.new result }
 {
     if buffer.len() <= from {
         return Got::Failed;
     }
-    let mut turns = u64::MAX;
-    while 0 < turns {
-        turns -= 1;
-        let got = libc::read(STDIN_FILENO, &mut buffer[from..]);
-        if got >= 0 {
-            return said(got, io::count(got, &buffer[from..]));
-        }
-        if !tries_again(b"ledger: standard input") {
-            return said(got, 0);
+    for _ in 0..u64::MAX {
+        match input.read(&mut buffer[from..]) {
+            Ok(bytes) => return said(bytes as isize, bytes),
+            Err(error) => {
+                if !tries_again(rt, name, error) {
+                    return said(-1, 0);
+                }
+            }
         }
     }
     Got::Failed
 }
 
-// Writes all bytes, and says whether they are written.
-pub fn write_whole(bytes: &[u8]) -> bool
-    ensures { WholeWhenEmpty (length bytes.now) result }
+// Reads once from standard input, behind the first `from` bytes of the buffer.
+pub fn read_behind(rt: HostRuntime, buffer: &mut [u8], from: usize) -> Got
+    ensures { ReadBehind from buffer.old result buffer.new }
+{
+    read_from(rt, "ledger: standard input", &mut rt.stdin(), buffer, from)
+}
+
+// Writes all bytes to an output of this name, each once and in their order, and says whether they are written.
+pub fn write_to<W: Write>(rt: HostRuntime, name: &str, output: &mut W, bytes: &[u8]) -> bool
+    ensures empty { WholeWhenEmpty (length bytes.now) result }
+    ensures bytes { WrittenOnce (W.contents output.old) (W.contents output.new) bytes.now result }
 {
     let mut done: usize = 0;
     let mut turns = u64::MAX;
     while (done < bytes.len()) & (0 < turns) {
         turns -= 1;
-        let put = libc::write(STDOUT_FILENO, &bytes[done..]);
-        if put >= 0 {
-            done += io::count(put, &bytes[done..]);
-        } else if !tries_again(b"ledger: standard output") {
-            return false;
+        match output.write(&bytes[done..]) {
+            Ok(put) => done += put,
+            Err(error) => {
+                if !tries_again(rt, name, error) {
+                    return false;
+                }
+            }
         }
     }
     bytes.len() <= done
+}
+
+// Writes all bytes to standard output, and says whether they are written.
+pub fn write_whole(rt: HostRuntime, bytes: &[u8]) -> bool
+    ensures { WholeWhenEmpty (length bytes.now) result }
+{
+    write_to(rt, "ledger: standard output", &mut rt.stdout(), bytes)
 }

@@ -4,9 +4,9 @@
 #![tactic(auto)]
 
 use fitness::fitness::is_fit;
-use libc::STDOUT_FILENO;
 use opening::{OpenAnswer, open_ledger};
 use refusals::{Refusal, number_of};
+use std::io;
 use tables::lookup::find;
 use tables::rows::{STRIDE, put_collection, put_mandate};
 use tables::{
@@ -22,11 +22,8 @@ const COLLECTIONS: usize = 5;
 const LIMIT: i64 = 10000000000000000;
 
 // One line: a name and a number.
-fn line(name: &[u8], n: u64) {
-    io::write_all(STDOUT_FILENO, name);
-    io::write_all(STDOUT_FILENO, b": ");
-    io::print_decimal(STDOUT_FILENO, n);
-    io::write_all(STDOUT_FILENO, b"\n");
+fn line(rt: &impl Print, name: &str, n: u64) -> io::Result<()> {
+    println!(rt; "{name}: {n}")
 }
 
 // The answer to lent memory: 0 where it is fit.
@@ -113,7 +110,14 @@ fn lent(mandates: &mut [u64], collections: &mut [u64], creditors: &mut [u64]) {
 }
 
 // The answer to a header, rows and creditors, with every position 0.
-fn unposted(name: &[u8], header: Header, mandates: &[u64], collections: &[u64], creditors: &[u64]) {
+fn unposted(
+    rt: &impl Print,
+    name: &str,
+    header: Header,
+    mandates: &[u64],
+    collections: &[u64],
+    creditors: &[u64],
+) -> io::Result<()> {
     let fit = is_fit(
         header,
         mandates,
@@ -123,49 +127,82 @@ fn unposted(name: &[u8], header: Header, mandates: &[u64], collections: &[u64], 
         &[0i64; 4096],
         &[0i64; 64],
     );
-    line(name, answer(fit));
+    line(rt, name, answer(fit))
 }
 
 // The ledger of `lent` with another header, cell k of the mandates v and cell j of the collections w. A cell past the
 // end changes nothing; cell k of the first row is cell k of the table.
-fn lent_case(name: &[u8], header: Header, k: usize, v: u64, j: usize, w: u64) {
+fn lent_case(
+    rt: &impl Print,
+    name: &str,
+    header: Header,
+    k: usize,
+    v: u64,
+    j: usize,
+    w: u64,
+) -> io::Result<()> {
     let mut mandates = [0u64; MANDATES * STRIDE];
     let mut collections = [0u64; COLLECTIONS * STRIDE];
     let mut creditors = [0u64; 256];
     lent(&mut mandates, &mut collections, &mut creditors);
     set_cell(&mut mandates, k, v);
     set_cell(&mut collections, j, w);
-    unposted(name, header, &mandates, &collections, &creditors);
+    unposted(rt, name, header, &mandates, &collections, &creditors)
 }
 
-fn mandate_case(name: &[u8], k: usize, v: u64) {
+fn mandate_case(rt: &impl Print, name: &str, k: usize, v: u64) -> io::Result<()> {
     lent_case(
+        rt,
         name,
         head(20240412, 2, 4, 10),
         k,
         v,
         COLLECTIONS * STRIDE,
         0,
-    );
+    )
 }
 
-fn collection_case(name: &[u8], k: usize, v: u64) {
-    lent_case(name, head(20240412, 2, 4, 10), MANDATES * STRIDE, 0, k, v);
-}
-
-fn header_case(name: &[u8], latest: u64, mandates: usize, collections: usize, cents: i64) {
+fn collection_case(rt: &impl Print, name: &str, k: usize, v: u64) -> io::Result<()> {
     lent_case(
+        rt,
+        name,
+        head(20240412, 2, 4, 10),
+        MANDATES * STRIDE,
+        0,
+        k,
+        v,
+    )
+}
+
+fn header_case(
+    rt: &impl Print,
+    name: &str,
+    latest: u64,
+    mandates: usize,
+    collections: usize,
+    cents: i64,
+) -> io::Result<()> {
+    lent_case(
+        rt,
         name,
         head(latest, mandates, collections, cents),
         MANDATES * STRIDE,
         0,
         COLLECTIONS * STRIDE,
         0,
-    );
+    )
 }
 
 // One entry of the creditor table and its position, and a position of a debtor and a bank.
-fn party_case(name: &[u8], entry: usize, bank: u64, creditor: i64, debtor: i64, other: i64) {
+fn party_case(
+    rt: &impl Print,
+    name: &str,
+    entry: usize,
+    bank: u64,
+    creditor: i64,
+    debtor: i64,
+    other: i64,
+) -> io::Result<()> {
     let mut mandates = [0u64; MANDATES * STRIDE];
     let mut collections = [0u64; COLLECTIONS * STRIDE];
     let mut creditors = [0u64; 256];
@@ -186,47 +223,49 @@ fn party_case(name: &[u8], entry: usize, bank: u64, creditor: i64, debtor: i64, 
         &debtor_positions,
         &bank_positions,
     );
-    line(name, answer(fit));
+    line(rt, name, answer(fit))
 }
 
 // Row tables of other sizes, with no row used: the first n and the first m cells of a table.
-fn rows_case(name: &[u8], cells: &[u64], n: usize, m: usize) {
+fn rows_case(rt: &impl Print, name: &str, cells: &[u64], n: usize, m: usize) -> io::Result<()> {
     if cells.len() < n {
-        return;
+        return Ok(());
     }
     if cells.len() < m {
-        return;
+        return Ok(());
     }
     unposted(
+        rt,
         name,
         head(0, 0, 0, 0),
         &cells[..n],
         &cells[..m],
         &[0u64; 256],
-    );
+    )
 }
 
 // The other tables of other sizes: the first cells of one table, and the first entries of `zeros`.
 fn parties_case(
-    name: &[u8],
+    rt: &impl Print,
+    name: &str,
     cells: &[u64],
     zeros: &[i64],
     creditors: usize,
     held: usize,
     debtors: usize,
     banks: usize,
-) {
+) -> io::Result<()> {
     if cells.len() < creditors {
-        return;
+        return Ok(());
     }
     if zeros.len() < held {
-        return;
+        return Ok(());
     }
     if zeros.len() < debtors {
-        return;
+        return Ok(());
     }
     if zeros.len() < banks {
-        return;
+        return Ok(());
     }
     let header = head(0, 0, 0, 0);
     let fit = is_fit(
@@ -238,242 +277,363 @@ fn parties_case(
         &zeros[..debtors],
         &zeros[..banks],
     );
-    line(name, answer(fit));
+    line(rt, name, answer(fit))
 }
 
-fn row_counts(cells: &[u64]) {
-    rows_case(b"one row of each, fit", cells, STRIDE, STRIDE);
-    rows_case(b"no mandate row", cells, 0, STRIDE);
-    rows_case(b"no collection row", cells, STRIDE, 0);
+fn row_counts(rt: &impl Print, cells: &[u64]) -> io::Result<()> {
+    rows_case(rt, "one row of each, fit", cells, STRIDE, STRIDE)?;
+    rows_case(rt, "no mandate row", cells, 0, STRIDE)?;
+    rows_case(rt, "no collection row", cells, STRIDE, 0)?;
     rows_case(
-        b"two mandate rows less a cell",
+        rt,
+        "two mandate rows less a cell",
         cells,
         2 * STRIDE - 1,
         STRIDE,
-    );
-    rows_case(b"a collection row and a cell", cells, STRIDE, STRIDE + 1);
-    rows_case(b"4096 mandate rows, fit", cells, 4096 * STRIDE, STRIDE);
-    rows_case(b"4097 mandate rows", cells, 4097 * STRIDE, STRIDE);
-    rows_case(b"16384 collection rows, fit", cells, STRIDE, 16384 * STRIDE);
-    rows_case(b"16385 collection rows", cells, STRIDE, 16385 * STRIDE);
+    )?;
+    rows_case(rt, "a collection row and a cell", cells, STRIDE, STRIDE + 1)?;
+    rows_case(rt, "4096 mandate rows, fit", cells, 4096 * STRIDE, STRIDE)?;
+    rows_case(rt, "4097 mandate rows", cells, 4097 * STRIDE, STRIDE)?;
+    rows_case(
+        rt,
+        "16384 collection rows, fit",
+        cells,
+        STRIDE,
+        16384 * STRIDE,
+    )?;
+    rows_case(rt, "16385 collection rows", cells, STRIDE, 16385 * STRIDE)
 }
 
-fn party_sizes(cells: &[u64], zeros: &[i64]) {
-    parties_case(b"255 creditors", cells, zeros, 255, 256, 4096, 64);
-    parties_case(b"257 creditors", cells, zeros, 257, 256, 4096, 64);
-    parties_case(b"255 creditor positions", cells, zeros, 256, 255, 4096, 64);
-    parties_case(b"257 creditor positions", cells, zeros, 256, 257, 4096, 64);
-    parties_case(b"4095 debtor positions", cells, zeros, 256, 256, 4095, 64);
-    parties_case(b"4097 debtor positions", cells, zeros, 256, 256, 4097, 64);
-    parties_case(b"63 bank positions", cells, zeros, 256, 256, 4096, 63);
-    parties_case(b"65 bank positions", cells, zeros, 256, 256, 4096, 65);
+fn party_sizes(rt: &impl Print, cells: &[u64], zeros: &[i64]) -> io::Result<()> {
+    parties_case(rt, "255 creditors", cells, zeros, 255, 256, 4096, 64)?;
+    parties_case(rt, "257 creditors", cells, zeros, 257, 256, 4096, 64)?;
+    parties_case(
+        rt,
+        "255 creditor positions",
+        cells,
+        zeros,
+        256,
+        255,
+        4096,
+        64,
+    )?;
+    parties_case(
+        rt,
+        "257 creditor positions",
+        cells,
+        zeros,
+        256,
+        257,
+        4096,
+        64,
+    )
 }
 
-fn headers() {
-    header_case(b"the ledger as lent, fit", 20240412, 2, 4, 10);
-    header_case(b"4 mandates used of 3 rows", 20240412, 4, 4, 10);
-    header_case(b"6 collections used of 5 rows", 20240412, 2, 6, 10);
-    header_case(b"a used row of zeros", 20240412, 3, 4, 10);
-    header_case(b"latest date 20240230", 20240230, 2, 1, 10);
-    header_case(b"latest date 20091231", 20091231, 2, 1, 10);
-    header_case(b"latest date 21900101", 21900101, 2, 1, 10);
-    header_case(b"latest date 0 with a settled row", 0, 2, 3, 10);
-    header_case(b"latest date 0 with a rejected row, fit", 0, 2, 2, 10);
-    header_case(b"compensation below 0", 20240412, 2, 4, -1);
-    header_case(b"compensation at its limit, fit", 20240412, 2, 4, LIMIT);
-    header_case(b"compensation beyond it", 20240412, 2, 4, LIMIT + 1);
+fn position_sizes(rt: &impl Print, cells: &[u64], zeros: &[i64]) -> io::Result<()> {
+    parties_case(
+        rt,
+        "4095 debtor positions",
+        cells,
+        zeros,
+        256,
+        256,
+        4095,
+        64,
+    )?;
+    parties_case(
+        rt,
+        "4097 debtor positions",
+        cells,
+        zeros,
+        256,
+        256,
+        4097,
+        64,
+    )?;
+    parties_case(rt, "63 bank positions", cells, zeros, 256, 256, 4096, 63)?;
+    parties_case(rt, "65 bank positions", cells, zeros, 256, 256, 4096, 65)
 }
 
-fn mandate_fields() {
-    mandate_case(b"mandate number 0", mandate_column::NUMBER, 0);
+fn headers(rt: &impl Print) -> io::Result<()> {
+    header_case(rt, "the ledger as lent, fit", 20240412, 2, 4, 10)?;
+    header_case(rt, "4 mandates used of 3 rows", 20240412, 4, 4, 10)?;
+    header_case(rt, "6 collections used of 5 rows", 20240412, 2, 6, 10)?;
+    header_case(rt, "a used row of zeros", 20240412, 3, 4, 10)?;
+    header_case(rt, "latest date 20240230", 20240230, 2, 1, 10)?;
+    header_case(rt, "latest date 20091231", 20091231, 2, 1, 10)?;
+    header_case(rt, "latest date 21900101", 21900101, 2, 1, 10)?;
+    header_case(rt, "latest date 0 with a settled row", 0, 2, 3, 10)?;
+    header_case(rt, "latest date 0 with a rejected row, fit", 0, 2, 2, 10)?;
+    header_case(rt, "compensation below 0", 20240412, 2, 4, -1)?;
+    header_case(rt, "compensation at its limit, fit", 20240412, 2, 4, LIMIT)?;
+    header_case(rt, "compensation beyond it", 20240412, 2, 4, LIMIT + 1)
+}
+
+fn mandate_parties(rt: &impl Print) -> io::Result<()> {
+    mandate_case(rt, "mandate number 0", mandate_column::NUMBER, 0)?;
     mandate_case(
-        b"mandate number 1000000000",
+        rt,
+        "mandate number 1000000000",
         mandate_column::NUMBER,
         1000000000,
-    );
-    mandate_case(b"mandate of creditor 0", mandate_column::CREDITOR, 0);
-    mandate_case(b"mandate of creditor 257", mandate_column::CREDITOR, 257);
+    )?;
+    mandate_case(rt, "mandate of creditor 0", mandate_column::CREDITOR, 0)?;
+    mandate_case(rt, "mandate of creditor 257", mandate_column::CREDITOR, 257)?;
     mandate_case(
-        b"mandate of a creditor not added",
+        rt,
+        "mandate of a creditor not added",
         mandate_column::CREDITOR,
         2,
-    );
-    mandate_case(b"mandate of debtor 0", mandate_column::DEBTOR, 0);
-    mandate_case(b"mandate of debtor 4097", mandate_column::DEBTOR, 4097);
-    mandate_case(b"mandate at bank 0", mandate_column::BANK, 0);
-    mandate_case(b"mandate at bank 65", mandate_column::BANK, 65);
-    mandate_case(b"signed on 20230229", mandate_column::SIGNED, 20230229);
-    mandate_case(b"signed before the range", mandate_column::SIGNED, 20091231);
-    mandate_case(b"kind 2", mandate_column::CODE, 2);
-    mandate_case(b"standing 3", mandate_column::STANDING, 3);
-    mandate_case(b"FRST cell 2", mandate_column::FIRST, 2);
+    )?;
+    mandate_case(rt, "mandate of debtor 0", mandate_column::DEBTOR, 0)?;
+    mandate_case(rt, "mandate of debtor 4097", mandate_column::DEBTOR, 4097)?;
+    mandate_case(rt, "mandate at bank 0", mandate_column::BANK, 0)?;
+    mandate_case(rt, "mandate at bank 65", mandate_column::BANK, 65)
+}
+
+fn mandate_terms(rt: &impl Print) -> io::Result<()> {
+    mandate_case(rt, "signed on 20230229", mandate_column::SIGNED, 20230229)?;
     mandate_case(
-        b"last presented on 20240431",
+        rt,
+        "signed before the range",
+        mandate_column::SIGNED,
+        20091231,
+    )?;
+    mandate_case(rt, "kind 2", mandate_column::CODE, 2)?;
+    mandate_case(rt, "standing 3", mandate_column::STANDING, 3)?;
+    mandate_case(rt, "FRST cell 2", mandate_column::FIRST, 2)?;
+    mandate_case(
+        rt,
+        "last presented on 20240431",
         mandate_column::PRESENTED,
         20240431,
-    );
+    )?;
     mandate_case(
-        b"the last row's standing 3",
+        rt,
+        "the last row's standing 3",
         STRIDE + mandate_column::STANDING,
         3,
-    );
+    )
 }
 
-fn collection_fields() {
-    collection_case(b"collection number 0", collection_column::NUMBER, 0);
+fn collection_parties(rt: &impl Print) -> io::Result<()> {
+    collection_case(rt, "collection number 0", collection_column::NUMBER, 0)?;
     collection_case(
-        b"collection number 1000000000",
+        rt,
+        "collection number 1000000000",
         collection_column::NUMBER,
         1000000000,
-    );
+    )?;
     collection_case(
-        b"collection of creditor 257",
+        rt,
+        "collection of creditor 257",
         collection_column::CREDITOR,
         257,
-    );
+    )?;
     collection_case(
-        b"collection of a creditor not added",
+        rt,
+        "collection of a creditor not added",
         collection_column::CREDITOR,
         2,
-    );
+    )?;
     collection_case(
-        b"collection of debtor 4097",
+        rt,
+        "collection of debtor 4097",
         collection_column::DEBTOR,
         4097,
-    );
-    collection_case(b"creditor bank 65", collection_column::CBANK, 65);
-    collection_case(b"debtor bank 0", collection_column::DBANK, 0);
-    collection_case(b"amount 0", collection_column::AMOUNT, 0);
+    )?;
+    collection_case(rt, "creditor bank 65", collection_column::CBANK, 65)?;
+    collection_case(rt, "debtor bank 0", collection_column::DBANK, 0)
+}
+
+fn collection_terms(rt: &impl Print) -> io::Result<()> {
+    collection_case(rt, "amount 0", collection_column::AMOUNT, 0)?;
     collection_case(
-        b"amount 100000000000",
+        rt,
+        "amount 100000000000",
         collection_column::AMOUNT,
         100000000000,
-    );
-    collection_case(b"kept due 21900101", collection_column::DUE, 21900101);
-    collection_case(b"state 6", collection_column::STATE, 6);
-    collection_case(b"settled on 0", 2 * STRIDE + collection_column::DAY, 0);
+    )?;
+    collection_case(rt, "kept due 21900101", collection_column::DUE, 21900101)?;
+    collection_case(rt, "state 6", collection_column::STATE, 6)?;
+    collection_case(rt, "settled on 0", 2 * STRIDE + collection_column::DAY, 0)?;
     collection_case(
-        b"settled on 20240230",
+        rt,
+        "settled on 20240230",
         2 * STRIDE + collection_column::DAY,
         20240230,
-    );
+    )?;
     collection_case(
-        b"settled after the latest date",
+        rt,
+        "settled after the latest date",
         2 * STRIDE + collection_column::DAY,
         20240413,
-    );
+    )?;
     collection_case(
-        b"undone after the latest date",
+        rt,
+        "undone after the latest date",
         3 * STRIDE + collection_column::DAY,
         20240413,
-    );
+    )
 }
 
-fn parties() {
-    party_case(b"creditor at bank 65", 0, 65, 0, 0, 0);
-    party_case(b"rows of a creditor without a bank", 0, 0, 0, 0, 0);
-    party_case(b"a position of a creditor not added", 1, 0, 1, 0, 0);
-    party_case(b"a negative one", 1, 0, -1, 0, 0);
-    party_case(b"creditor beyond the limit", 0, 1, LIMIT + 1, 0, 0);
-    party_case(b"creditor beyond it below 0", 0, 1, -LIMIT - 1, 0, 0);
-    party_case(b"debtor beyond the limit", 0, 1, 0, LIMIT + 1, 0);
-    party_case(b"debtor beyond it below 0", 0, 1, 0, -LIMIT - 1, 0);
-    party_case(b"bank beyond the limit", 0, 1, 0, 0, LIMIT + 1);
-    party_case(b"bank beyond it below 0", 0, 1, 0, 0, -LIMIT - 1);
+fn parties(rt: &impl Print) -> io::Result<()> {
+    party_case(rt, "creditor at bank 65", 0, 65, 0, 0, 0)?;
+    party_case(rt, "rows of a creditor without a bank", 0, 0, 0, 0, 0)?;
+    party_case(rt, "a position of a creditor not added", 1, 0, 1, 0, 0)?;
+    party_case(rt, "a negative one", 1, 0, -1, 0, 0)?;
+    party_case(rt, "creditor beyond the limit", 0, 1, LIMIT + 1, 0, 0)?;
+    party_case(rt, "creditor beyond it below 0", 0, 1, -LIMIT - 1, 0, 0)?;
+    party_case(rt, "debtor beyond the limit", 0, 1, 0, LIMIT + 1, 0)?;
+    party_case(rt, "debtor beyond it below 0", 0, 1, 0, -LIMIT - 1, 0)?;
+    party_case(rt, "bank beyond the limit", 0, 1, 0, 0, LIMIT + 1)?;
+    party_case(rt, "bank beyond it below 0", 0, 1, 0, 0, -LIMIT - 1)
 }
 
-// Fit, though a hasty reading would refuse it.
-fn fit_all_the_same() {
+// Fit, though a hasty reading would refuse it: numbers and days, other fields, and cells with no meaning.
+fn fit_days(rt: &impl Print) -> io::Result<()> {
     mandate_case(
-        b"two mandates of one number, fit",
+        rt,
+        "two mandates of one number, fit",
         STRIDE + mandate_column::NUMBER,
         7,
-    );
+    )?;
     collection_case(
-        b"two collections of one number, fit",
+        rt,
+        "two collections of one number, fit",
         STRIDE + collection_column::NUMBER,
         70,
-    );
+    )?;
     collection_case(
-        b"kept due on a Saturday, fit",
+        rt,
+        "kept due on a Saturday, fit",
         collection_column::DUE,
         20240330,
-    );
+    )?;
     collection_case(
-        b"settled on a Sunday, fit",
+        rt,
+        "settled on a Sunday, fit",
         2 * STRIDE + collection_column::DAY,
         20240407,
-    );
+    )?;
     collection_case(
-        b"settled before the kept due, fit",
+        rt,
+        "settled before the kept due, fit",
         2 * STRIDE + collection_column::DAY,
         20240327,
-    );
+    )?;
     collection_case(
-        b"settled on the latest date, fit",
+        rt,
+        "settled on the latest date, fit",
         2 * STRIDE + collection_column::DAY,
         20240412,
-    );
+    )
+}
+
+fn fit_fields(rt: &impl Print) -> io::Result<()> {
     mandate_case(
-        b"signed after the latest date, fit",
+        rt,
+        "signed after the latest date, fit",
         mandate_column::SIGNED,
         20250101,
-    );
+    )?;
     mandate_case(
-        b"FRST due on a one-off, fit",
+        rt,
+        "FRST due on a one-off, fit",
         STRIDE + mandate_column::FIRST,
         1,
-    );
-    mandate_case(b"nothing presented yet, fit", mandate_column::PRESENTED, 0);
+    )?;
+    mandate_case(
+        rt,
+        "nothing presented yet, fit",
+        mandate_column::PRESENTED,
+        0,
+    )?;
     collection_case(
-        b"another creditor bank than today's, fit",
+        rt,
+        "another creditor bank than today's, fit",
         collection_column::CBANK,
         9,
-    );
+    )
+}
+
+fn fit_cells(rt: &impl Print) -> io::Result<()> {
     collection_case(
-        b"any day of a presented row, fit",
+        rt,
+        "any day of a presented row, fit",
         collection_column::DAY,
         99999999,
-    );
+    )?;
     collection_case(
-        b"any day of a rejected row, fit",
+        rt,
+        "any day of a rejected row, fit",
         STRIDE + collection_column::DAY,
         20300101,
-    );
+    )?;
     mandate_case(
-        b"any cell of an unused mandate row, fit",
+        rt,
+        "any cell of an unused mandate row, fit",
         2 * STRIDE + mandate_column::STANDING,
         77,
-    );
+    )?;
     collection_case(
-        b"any cell of an unused collection row, fit",
+        rt,
+        "any cell of an unused collection row, fit",
         4 * STRIDE + collection_column::STATE,
         77,
-    );
-    party_case(b"positions that add up to 1, fit", 0, 64, LIMIT, -LIMIT, 1);
+    )?;
+    party_case(
+        rt,
+        "positions that add up to 1, fit",
+        0,
+        64,
+        LIMIT,
+        -LIMIT,
+        1,
+    )
 }
 
 // The row of a number, 9 where there is none.
-fn lookup_case(name: &[u8], cells: &[u64], used: usize, number: u64) {
+fn lookup_case(
+    rt: &impl Print,
+    name: &str,
+    cells: &[u64],
+    used: usize,
+    number: u64,
+) -> io::Result<()> {
     match find(cells, used, number) {
-        Found::At(row) => line(name, row as u64),
-        Found::Nothing => line(name, 9),
+        Found::At(row) => line(rt, name, row as u64),
+        Found::Nothing => line(rt, name, 9),
     }
 }
 
-fn lookups() {
+fn lookups(rt: &impl Print) -> io::Result<()> {
     let mut collections = [0u64; COLLECTIONS * STRIDE];
     lent_collections(&mut collections);
     put_collection(&mut collections, 4, collection(70, State::Presented));
-    lookup_case(b"the row of 72", &collections, 4, 72);
-    lookup_case(b"the lowest row of 70", &collections, 5, 70);
-    lookup_case(b"no row of 74", &collections, 5, 74);
-    lookup_case(b"no used row of 73", &collections, 3, 73);
-    lookup_case(b"no row past the table", &collections, 9, 0);
+    lookup_case(rt, "the row of 72", &collections, 4, 72)?;
+    lookup_case(rt, "the lowest row of 70", &collections, 5, 70)?;
+    lookup_case(rt, "no row of 74", &collections, 5, 74)?;
+    lookup_case(rt, "no used row of 73", &collections, 3, 73)?;
+    lookup_case(rt, "no row past the table", &collections, 9, 0)
+}
+
+// The answer to an opening: 0 where it was done.
+fn opened(a: OpenAnswer) -> u64 {
+    match a {
+        OpenAnswer::Opened => 0,
+        OpenAnswer::Refused(r) => number_of(r),
+    }
 }
 
 // The opening's answer, and the answer to the memory after it.
-fn open_case(name: &[u8], mandates: &[u64], header: Header, bank: u64) {
+fn open_case(
+    rt: &impl Print,
+    name: &str,
+    mandates: &[u64],
+    header: Header,
+    bank: u64,
+) -> io::Result<()> {
     let mut collections = [0u64; COLLECTIONS * STRIDE];
     let mut creditors = [0u64; 256];
     let mut creditor_positions = [0i64; 256];
@@ -493,14 +653,9 @@ fn open_case(name: &[u8], mandates: &[u64], header: Header, bank: u64) {
         &mut debtor_positions,
         &mut bank_positions,
     );
-    let header = done.header;
-    let given = done.answer;
-    match given {
-        OpenAnswer::Opened => line(name, 0),
-        OpenAnswer::Refused(r) => line(name, number_of(r)),
-    }
+    line(rt, name, opened(done.answer))?;
     let fit = is_fit(
-        header,
+        done.header,
         mandates,
         &collections,
         &creditors,
@@ -508,35 +663,42 @@ fn open_case(name: &[u8], mandates: &[u64], header: Header, bank: u64) {
         &debtor_positions,
         &bank_positions,
     );
-    line(b"and the memory after it", answer(fit));
+    line(rt, "and the memory after it", answer(fit))
 }
 
-fn openings() {
+fn openings(rt: &impl Print) -> io::Result<()> {
     let rubbish = head(77, 900, 900, -5);
     open_case(
-        b"opening over rubbish",
+        rt,
+        "opening over rubbish",
         &[77u64; MANDATES * STRIDE],
         rubbish,
         99,
-    );
+    )?;
     open_case(
-        b"opening of no whole rows",
+        rt,
+        "opening of no whole rows",
         &[77u64; MANDATES * STRIDE - 1],
         rubbish,
         99,
-    );
+    )
 }
 
-fn main() {
+fn main(rt: HostRuntime) -> io::Result<()> {
     let zeros = [0i64; 4097];
     let cells = [0u64; 16385 * STRIDE];
-    row_counts(&cells);
-    party_sizes(&cells, &zeros);
-    headers();
-    mandate_fields();
-    collection_fields();
-    parties();
-    fit_all_the_same();
-    lookups();
-    openings();
+    row_counts(&rt, &cells)?;
+    party_sizes(&rt, &cells, &zeros)?;
+    position_sizes(&rt, &cells, &zeros)?;
+    headers(&rt)?;
+    mandate_parties(&rt)?;
+    mandate_terms(&rt)?;
+    collection_parties(&rt)?;
+    collection_terms(&rt)?;
+    parties(&rt)?;
+    fit_days(&rt)?;
+    fit_fields(&rt)?;
+    fit_cells(&rt)?;
+    lookups(&rt)?;
+    openings(&rt)
 }

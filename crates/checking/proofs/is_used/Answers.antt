@@ -1,4 +1,3 @@
-use borrow.Author.Rules.{rules}
 use Rattle.checking.proofs.is_used.Goals as goal
 
 pub returns-in-At : goal.returns-in-At

@@ -1,24 +1,23 @@
 -- An index followed. To cite: `index_holds`, which is `IndexHolds`; `indexed_made`, `indexed_kept`; for a loop
 -- `follow_start`, `follow_none`, `follow_end`, `follow_hit`, `follow_next`. Assumes nothing.
 use mathlib.Core.Path.{◌≡◌, refl, sym, ap, ◌∙◌}
-use mathlib.Core.Bool.{Bool, true, false, cond}
+use mathlib.Core.Bool.{true, false}
 use mathlib.Core.List.{List}
 use mathlib.Core.Logic.{◌≢◌, ⊎_elim}
-use Prim.Native.Nat.{ℕ, zero, suc, ◌+◌, ◌-◌, ◌%◌, ◌≤◌, ◌<◌, min}
-use native.Mathlib.Nat.{add-zero, eq-or-lt_of_le, le_of_suc-le-suc}
+use Prim.Native.Nat.{ℕ, zero, suc, ◌+◌, ◌-◌, ◌≤◌, ◌<◌}
+use native.Mathlib.Nat.{eq-or-lt_of_le, le_of_suc-le-suc}
 use native.Mathlib.Numerals.{add-one}
 use native.Mathlib.Omega.{arith}
 use borrow.Author.Tests.{lt-ltb, ltb-true, ltb-false, eqb-true, eqb-false, eq-eqb, ne_eqb}
-use lib.Dec.{eqb, ltb}
+use lib.Dec.{ltb}
 use lib.ListN.{get_or}
-use Rattle.common.specs.Walk.{first_from}
-use Rattle.common.proofs.Tests.{never, true_or_false}
+use Rattle.common.proofs.Tests.{true_or_false}
 use Rattle.common.proofs.Walk.{cases_from}
 use Rattle.tables.specs.declared.Found.{Found}
 use Rattle.tables.specs.declared.Found.TheVariants.{At, Nothing}
-use Rattle.tables.specs.Lookup.{number_at, number_is, existing}
+use Rattle.tables.specs.Lookup.{number_at, number_is}
 use Rattle.tables.proofs.Laws.Lookup.{Grown, lookup_since_lem}
-use Rattle.index.specs.Index.{slots, row_limit, slot_of, in_slot, marked, row_from, covered, index_of, covered_by, next_row, follow, first_row, Indexed, IndexHolds}
+use Rattle.index.specs.Index.{row_limit, slot_of, in_slot, marked, row_from, covered, index_of, covered_by, next_row, follow, first_row, Indexed, IndexHolds}
 use Rattle.index.proofs.Laws.Making.{index_slot, index_row, index_covered}
 
 -- ---- the steps of a loop that follows

@@ -1,10 +1,9 @@
 -- An index made from the last row that it covers to the first. To cite: `Linked` with `linked_start`, `linked_row`,
 -- `linked_end`; of what stands in an index `index_slot`, `index_row`, `index_covered`, `length_index`. Assumes nothing.
 use mathlib.Core.Path.{◌≡◌, refl, sym, ap, ◌∙◌}
-use mathlib.Core.Bool.{Bool, true, false, cond}
-use mathlib.Core.List.{List, [], ◌∷◌}
+use mathlib.Core.List.{List}
 use mathlib.Core.Logic.{◌≢◌, ⊎_elim}
-use Prim.Native.Nat.{ℕ, zero, suc, ◌+◌, ◌-◌, ◌*◌, ◌≤◌, ◌<◌, min}
+use Prim.Native.Nat.{ℕ, zero, suc, ◌+◌, ◌-◌, ◌≤◌, ◌<◌}
 use native.Mathlib.Nat.{add-zero, zero-add}
 use native.Mathlib.Omega.{arith}
 use borrow.Author.Tests.{lt-ltb, le-ltb, ltb-true, ltb-false, eqb-true, eqb-false, eq-eqb, ne_eqb}
@@ -13,7 +12,7 @@ use lib.ListN.{length, get_or, set, replicate, length-set, length-replicate, get
 use lib.Seq.{get_or-set_same, get_or-set_other, ext_get_or}
 use Rattle.common.proofs.Tests.{true_or_false}
 use Rattle.common.proofs.Walk.{first_from_hit, first_from_miss, first_from_end}
-use Rattle.tables.specs.Lookup.{number_at, existing}
+use Rattle.tables.specs.Lookup.{number_at}
 use Rattle.index.specs.Index.{slots, row_limit, index_length, slot_of, in_slot, row_from, behind_slots, index_cell, values_from, covered, index_of, covered_by}
 
 -- ---- a list of values

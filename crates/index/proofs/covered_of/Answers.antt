@@ -1,6 +1,5 @@
 -- `index::covered_of` meets its contract. Assumes nothing.
 use native.Mathlib.Omega.{arith}
-use borrow.Author.Rules.{rules}
 use Rattle.index.proofs.covered_of.Goals as goal
 
 pub returns-then-there-lt-ROWS : goal.returns-then-there-lt-ROWS

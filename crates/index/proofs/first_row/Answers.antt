@@ -1,10 +1,10 @@
 -- `index::first_row` meets its contract. The loop: to follow from row k - 1 on gives the answer. Assumes nothing.
-use Rattle.index.specs.Index.{first_row, follow}
+use Rattle.index.specs.Index.{follow}
 use Rattle.index.proofs.Laws.Following.{follow_start, follow_none, follow_end, follow_hit, follow_next}
 use lib.ListN.{get_or}
 use mathlib.Core.Path.{◌≡◌, sym, ◌∙◌, ap}
 use native.Mathlib.Omega.{arith}
-use Prim.Native.Nat.{ℕ, ◌-◌, ◌<◌}
+use Prim.Native.Nat.{ℕ, ◌-◌}
 use borrow.Author.Rules.{rules}
 use Rattle.index.proofs.first_row.Goals as goal
 

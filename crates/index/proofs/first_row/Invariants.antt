@@ -1,10 +1,6 @@
 use Rattle.index.specs.Index.{first_row, follow}
-use Rattle.index.proofs.Laws.Following.{follow_start, follow_none, follow_end, follow_hit, follow_next}
-use lib.ListN.{get_or}
-use mathlib.Core.Path.{◌≡◌, sym, ◌∙◌, ap}
-use native.Mathlib.Omega.{arith}
-use Prim.Native.Nat.{ℕ, ◌-◌, ◌<◌}
-use borrow.Author.Rules.{rules}
+use mathlib.Core.Path.{◌≡◌}
+use Prim.Native.Nat.{◌<◌}
 use Rattle.index.proofs.first_row.Given as goal
 
 abbrev pub invariant-loop-left : goal.invariant-loop-left

@@ -2,7 +2,6 @@
 use lib.ListN.{get_or-eq_default}
 use mathlib.Core.Path.{sym}
 use Prim.Native.Nat.{ℕ}
-use borrow.Author.Rules.{rules}
 use Rattle.index.proofs.number_at.Goals as goal
 
 pub returns-else-i-cells : goal.returns-else-i-cells

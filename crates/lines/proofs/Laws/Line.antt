@@ -18,7 +18,6 @@ use Rattle.events.specs.declared.Event.{Event}
 use Rattle.events.specs.declared.limits.Row.{Row}
 use Rattle.refusals.specs.declared.Refusal.{Refusal}
 use Rattle.refusals.specs.declared.Refusal.TheVariants.{BadLine, UnfitMemory}
-use Rattle.events.specs.declared.limits.Checked.TheVariants.{Refused}
 use Rattle.lines.specs.declared.line.LineAnswer.{LineAnswer}
 use Rattle.lines.specs.declared.line.LineAnswer.TheVariants as lines
 use Rattle.lines.specs.declared.line.WriteAnswer.TheVariants as writes

@@ -18,7 +18,6 @@ use Rattle.events.specs.declared.limits.Checked.{Checked}
 use Rattle.events.specs.declared.limits.Checked.TheVariants.{Within, Refused}
 use Rattle.lines.specs.declared.line.LineAnswer.{LineAnswer}
 use Rattle.lines.specs.declared.line.LineAnswer.TheVariants as lines
-use Rattle.lines.specs.declared.line.WriteAnswer.TheVariants as writes
 use Rattle.events.specs.Limits.{within, kinds, fields_fit, checked}
 use Rattle.lines.specs.Line.{widths, fields_of, event_of, columns, line_length, line_end, fields_bytes, line_of, Fields, Values, Unreadable, read_fields, answer_of, taken, read_line, checked_line, cells_by, write_answer, bytes_after, line_number, write_number, written_of}
 use Rattle.common.specs.Tests.{among}

@@ -10,7 +10,7 @@ use Rattle.common.proofs.Tests.{not_true, and_halves}
 use Rattle.calendar.specs.Gregorian.{is_date, in_range}
 use Rattle.calendar.specs.DayNumber.{day_number, date_at}
 use Rattle.calendar.specs.Target.{last_business_day_before}
-use Rattle.calendar.specs.Periods.{days_after, months_after, period_end, is_after}
+use Rattle.calendar.specs.Periods.{days_after, months_after, is_after}
 use Rattle.calendar.specs.declared.DateAnswer.{DateAnswer}
 use Rattle.calendar.specs.declared.DateAnswer.TheVariants.{Date}
 use Rattle.calendar.proofs.Laws.Gregorian.{range_facts, date_valid}

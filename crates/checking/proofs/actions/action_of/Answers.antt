@@ -2,7 +2,6 @@ use Rattle.model.proofs.Laws.Actions.{action_creditor, action_mandate, action_am
 use Rattle.model.specs.Actions.{action_of}
 use borrow.Author.Tests.{ne_eqb}
 use mathlib.Core.Path.{sym}
-use borrow.Author.Rules.{rules}
 use Rattle.checking.proofs.actions.action_of.Goals as goal
 
 pub returns-in-1 : goal.returns-in-1

@@ -3,7 +3,6 @@ use Rattle.calendar.specs.Target.{first_open}
 use borrow.Author.Tests.{lt-ltb, le-ltb}
 use native.Mathlib.Omega.{arith}
 use mathlib.Core.Path.{sym}
-use borrow.Author.Rules.{rules}
 use Rattle.deadlines.proofs.collects.is_early.Goals as goal
 
 pub returns-then-due-day : goal.returns-then-due-day

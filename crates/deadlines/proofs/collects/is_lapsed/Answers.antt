@@ -1,5 +1,4 @@
 use Rattle.deadlines.proofs.Laws.Collects.{lapse_end_signed, lapse_end_presented}
-use borrow.Author.Rules.{rules}
 use Rattle.deadlines.proofs.collects.is_lapsed.Goals as goal
 
 pub returns-then-presented-eq0 : goal.returns-then-presented-eq0

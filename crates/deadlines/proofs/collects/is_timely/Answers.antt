@@ -1,6 +1,5 @@
 use Rattle.deadlines.proofs.Laws.Collects.{timely_days, day_lt}
 use mathlib.Core.Path.{sym, ◌∙◌}
-use borrow.Author.Rules.{rules}
 use Rattle.deadlines.proofs.collects.is_timely.Goals as goal
 
 pub is_timely_by_days-requires : goal.is_timely_by_days-requires

@@ -1,5 +1,4 @@
 use Rattle.model.specs.Deadlines.{timely}
-use borrow.Author.Rules.{rules}
 use Rattle.deadlines.proofs.collects.is_timely_by_dates.Goals as goal
 
 pub returns : goal.returns

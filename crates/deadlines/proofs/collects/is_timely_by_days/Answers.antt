@@ -1,5 +1,4 @@
 use borrow.Author.Tests.{lt-ltb, le-ltb}
-use borrow.Author.Rules.{rules}
 use Rattle.deadlines.proofs.collects.is_timely_by_days.Goals as goal
 
 pub returns-then-day-asked : goal.returns-then-day-asked

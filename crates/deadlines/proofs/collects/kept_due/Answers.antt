@@ -1,6 +1,5 @@
 use Rattle.deadlines.proofs.Laws.Collects.{kept_due_date, kept_due_none}
 use mathlib.Core.Path.{sym, ◌∙◌}
-use borrow.Author.Rules.{rules}
 use Rattle.deadlines.proofs.collects.kept_due.Goals as goal
 
 pub returns-in-Date : goal.returns-in-Date

@@ -2,7 +2,6 @@ use Rattle.calendar.proofs.Laws.Answers.{in_calendar_day, in_calendar_none}
 use Rattle.calendar.proofs.Laws.BusinessDays.{first_open_lt}
 use native.Mathlib.Omega.{arith}
 use mathlib.Core.Path.{sym, ◌∙◌}
-use borrow.Author.Rules.{rules}
 use Rattle.deadlines.proofs.collects.open_from.Goals as goal
 
 pub returns-in-Day : goal.returns-in-Day

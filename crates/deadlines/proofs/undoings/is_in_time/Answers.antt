@@ -1,6 +1,5 @@
 -- `is_in_time` compares with the last day.
 -- Assumes nothing.
-use borrow.Author.Rules.{rules}
 use Rattle.deadlines.proofs.undoings.is_in_time.Goals as goal
 
 pub returns : goal.returns

@@ -1,7 +1,6 @@
 -- `last_day` is the end of the way's period.
 -- Assumes nothing.
 use Rattle.model.specs.Deadlines.{last_day}
-use borrow.Author.Rules.{rules}
 use Rattle.deadlines.proofs.undoings.last_day.Goals as goal
 
 pub returns : goal.returns

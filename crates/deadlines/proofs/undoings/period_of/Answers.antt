@@ -1,6 +1,5 @@
 -- Each way's period is that of `core`.
 -- Assumes nothing.
-use borrow.Author.Rules.{rules}
 use Rattle.deadlines.proofs.undoings.period_of.Goals as goal
 
 pub returns-in-ByReturn : goal.returns-in-ByReturn

@@ -1,7 +1,6 @@
 -- `refund_period` looks at the code.
 -- Assumes nothing.
 use borrow.Author.Tests.{ne_eqb}
-use borrow.Author.Rules.{rules}
 use Rattle.deadlines.proofs.undoings.refund_period.Goals as goal
 
 pub returns-then-code-eq0 : goal.returns-then-code-eq0

@@ -6,8 +6,6 @@ use Rattle.events.specs.declared.Event.{Event}
 use Rattle.events.specs.declared.limits.Checked.{Checked}
 use Rattle.events.specs.Limits.{checked, checked_number, limit_number}
 use Rattle.events.proofs.Laws.Numbers.{limit_number_lem}
-use Rattle.common.proofs.Tests.{not_true, not_false}
-use borrow.Author.Rules.{rules}
 use Rattle.events.proofs.limits.check.Goals as goal
 
 -- an answer that is right has its number

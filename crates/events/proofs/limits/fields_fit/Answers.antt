@@ -1,7 +1,6 @@
 -- `fields_fit` looks up the row of the kind and code, and tests the fields by it.
 -- Assumes nothing.
 use Rattle.events.specs.Limits.{fields_fit}
-use borrow.Author.Rules.{rules}
 use Rattle.events.proofs.limits.fields_fit.Goals as goal
 
 pub returns-in_default : goal.returns-in_default

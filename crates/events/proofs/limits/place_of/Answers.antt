@@ -2,7 +2,6 @@
 -- Assumes nothing.
 use Rattle.events.specs.Limits.{table, kinds}
 use Rattle.events.proofs.Laws.Limits.{Between, within_between, only_unknown, only_first, only_bank, only_rest}
-use Rattle.common.proofs.Tests.{not_true, not_false}
 use mathlib.Core.Path.{sym, ◌∙◌}
 use borrow.Author.Rules.{rules}
 use native.Mathlib.Omega.{arith}

@@ -3,7 +3,6 @@
 use Rattle.events.specs.Limits.{table}
 use Rattle.events.proofs.Laws.Limits.{row_at, last_case}
 use mathlib.Core.Path.{◌∙◌}
-use borrow.Author.Rules.{rules}
 use Rattle.events.proofs.limits.row_at.Goals as goal
 
 pub returns-in-0 : goal.returns-in-0

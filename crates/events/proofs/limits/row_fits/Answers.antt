@@ -1,5 +1,4 @@
 use Rattle.events.specs.Limits.{row_fits}
-use borrow.Author.Rules.{rules}
 use Rattle.events.proofs.limits.row_fits.Goals as goal
 
 pub returns : goal.returns

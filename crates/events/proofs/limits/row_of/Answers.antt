@@ -2,7 +2,6 @@
 -- Assumes nothing.
 use Rattle.events.proofs.Laws.Limits.{only_hit, only_miss}
 use mathlib.Core.Path.{sym}
-use borrow.Author.Rules.{rules}
 use Rattle.events.proofs.limits.row_of.Goals as goal
 
 pub returns-then-row-kind : goal.returns-then-row-kind

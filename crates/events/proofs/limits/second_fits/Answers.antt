@@ -1,6 +1,5 @@
 -- `second_fits` goes by the cases of `second_fits`.
 -- Assumes nothing.
-use borrow.Author.Rules.{rules}
 use Rattle.events.proofs.limits.second_fits.Goals as goal
 
 pub returns-in-NoSecond : goal.returns-in-NoSecond

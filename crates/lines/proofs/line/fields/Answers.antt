@@ -8,7 +8,6 @@ use lib.ListN.{drop}
 use Prim.Native.Nat.{ℕ}
 use mathlib.Core.List.{List, [], ◌∷◌, ◌++◌}
 use mathlib.Core.Path.{◌≡◌, refl, sym, ap, ◌∙◌}
-use borrow.Author.Rules.{rules}
 use Rattle.lines.proofs.line.fields.Goals as goal
 
 pub returns-in_default : goal.returns-in_default

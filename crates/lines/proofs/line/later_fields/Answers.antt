@@ -1,15 +1,14 @@
 -- `later_fields` reads field by field, as `fields` does, behind the four that were read. Then it goes by the answer of `check`, and
 -- stores the values cell after cell. Assumes nothing.
-use Rattle.lines.proofs.Laws.Line.{after, after_value, after_none, stored, length_stored, cell_within, cells_stored, cells_answer}
+use Rattle.lines.proofs.Laws.Line.{after, after_value, after_none, stored, cell_within, cells_stored, cells_answer}
 use Rattle.lines.specs.Line.{widths, event_of, read_fields, answer_of, taken}
 use Rattle.lines.specs.declared.line.LineAnswer.TheVariants as lines
 use Rattle.refusals.specs.declared.Refusal.TheVariants.{BadLine}
-use lib.ListN.{length, take, drop, length-set}
+use lib.ListN.{length, take, drop}
 use lib.Dec.{lit<}
 use Prim.Native.Nat.{ℕ, ◌<◌}
 use mathlib.Core.List.{List, [], ◌∷◌, ◌++◌}
 use mathlib.Core.Path.{◌≡◌, refl, sym, ap, ◌∙◌}
-use borrow.Author.Rules.{rules}
 use Rattle.lines.proofs.line.later_fields.Goals as goal
 
 pub returns-in_default : goal.returns-in_default

@@ -1,6 +1,6 @@
 -- `put_line` writes field by field: at each place the bytes that are written stand at the front of the buffer. Assumes nothing.
 use native.Mathlib.Nat.{le_trans}
-use lib.ListN.{length, length-set}
+use lib.ListN.{length}
 use Rattle.lines.proofs.Laws.Line.{line_of_written}
 use Rattle.digits.specs.Field.{blank, field_bytes}
 use Rattle.digits.proofs.Laws.Buffer.{Written, written_none, written_field, written_byte, written_inside, written_length}
@@ -9,8 +9,7 @@ use lib.Dec.{lit≤}
 use native.Mathlib.Omega.{arith}
 use Prim.Native.Nat.{ℕ, ◌≤◌}
 use mathlib.Core.List.{List, [], ◌++◌}
-use mathlib.Core.Path.{◌≡◌, refl, ◌∙◌}
-use borrow.Author.Rules.{rules}
+use mathlib.Core.Path.{◌≡◌, refl}
 use Rattle.lines.proofs.line.put_line.Goals as goal
 
 room : {a b n : ℕ} → a ≡ b → line_length ≤ b → n ≤ line_length → n ≤ a

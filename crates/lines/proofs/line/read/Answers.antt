@@ -8,7 +8,6 @@ use Rattle.lines.proofs.Laws.Numbers.{reader_number_lem}
 use Prim.Native.Nat.{ℕ}
 use mathlib.Core.List.{List}
 use mathlib.Core.Path.{◌≡◌, sym, ap, ◌∙◌}
-use borrow.Author.Rules.{rules}
 use Rattle.lines.proofs.line.read.Goals as goal
 
 -- an answer that is right has its number

@@ -9,7 +9,6 @@ use Rattle.lines.proofs.Laws.Numbers.{checked_line_number, reader_number_lem}
 use mathlib.Core.List.{List}
 use mathlib.Core.Path.{◌≡◌, refl, sym, ap, ◌∙◌}
 use Prim.Native.Nat.{ℕ}
-use borrow.Author.Rules.{rules}
 use Rattle.lines.proofs.line.read_cells.Goals as goal
 
 -- what the line says, and the answer, the cells and the number by it

@@ -4,7 +4,6 @@ use Rattle.lines.proofs.Laws.Line.{write_answer_short, write_answer_checked, byt
 use Rattle.lines.specs.Line.{written_of, write_number}
 use Rattle.lines.proofs.Laws.Numbers.{writer_number_lem}
 use mathlib.Core.Path.{sym, ap, ◌∙◌}
-use borrow.Author.Rules.{rules}
 use Rattle.lines.proofs.line.write.Goals as goal
 
 pub returns-then-out-lt-LINE : goal.returns-then-out-lt-LINE

@@ -7,7 +7,6 @@ use Prim.Native.Nat.{◌<◌}
 use native.Mathlib.Omega.{arith}
 use Rattle.checking.proofs.Laws.Calls.{done_refused, done_accepted}
 use mathlib.Core.Path.{sym, ◌∙◌}
-use borrow.Author.Rules.{rules}
 use Rattle.records.proofs.collects.collect.Goals as goal
 
 pub presented_on-requires : goal.presented_on-requires

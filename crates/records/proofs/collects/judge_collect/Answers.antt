@@ -1,6 +1,5 @@
 use Rattle.records.proofs.Laws.Records.{collect_then}
 use mathlib.Core.Path.{sym, ◌∙◌}
-use borrow.Author.Rules.{rules}
 use Rattle.records.proofs.collects.judge_collect.Goals as goal
 
 pub returns-in-Refused : goal.returns-in-Refused

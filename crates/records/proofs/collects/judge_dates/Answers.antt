@@ -1,5 +1,4 @@
 use mathlib.Core.Path.{◌∙◌}
-use borrow.Author.Rules.{rules}
 use Rattle.records.proofs.collects.judge_dates.Goals as goal
 
 pub returns : goal.returns

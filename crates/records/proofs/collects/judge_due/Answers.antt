@@ -1,5 +1,4 @@
 use mathlib.Core.Path.{sym, ◌∙◌}
-use borrow.Author.Rules.{rules}
 use Rattle.records.proofs.collects.judge_due.Goals as goal
 
 pub judge_dates-requires : goal.judge_dates-requires

@@ -1,5 +1,4 @@
 use Rattle.records.proofs.Laws.Records.{new_collection_made}
-use borrow.Author.Rules.{rules}
 use Rattle.records.proofs.collects.new_collection.Goals as goal
 
 pub returns : goal.returns

@@ -1,6 +1,5 @@
 use Rattle.records.proofs.Laws.Records.{presented_on_made}
 use mathlib.Core.Path.{◌∙◌}
-use borrow.Author.Rules.{rules}
 use Rattle.records.proofs.collects.presented_on.Goals as goal
 
 pub returns : goal.returns

@@ -3,7 +3,6 @@ use mathlib.Core.List.{[]}
 use Rattle.records.proofs.Laws.Records.{creditor_number}
 use Rattle.checking.proofs.Laws.Calls.{done_refused, done_accepted}
 use mathlib.Core.Path.{sym, ◌∙◌}
-use borrow.Author.Rules.{rules}
 use Rattle.records.proofs.creditors.add_creditor.Goals as goal
 
 pub put_bank-requires : goal.put_bank-requires

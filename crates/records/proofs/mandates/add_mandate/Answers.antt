@@ -6,7 +6,6 @@ use mathlib.Core.List.{[]}
 use Rattle.records.proofs.Laws.Records.{mandate_room}
 use Rattle.checking.proofs.Laws.Calls.{done_refused, done_accepted}
 use mathlib.Core.Path.{sym, ◌∙◌}
-use borrow.Author.Rules.{rules}
 use Rattle.records.proofs.mandates.add_mandate.Goals as goal
 
 pub overflow_add-used : goal.overflow_add-used

@@ -1,6 +1,5 @@
 use Rattle.checking.proofs.Laws.Calls.{done_refused, done_accepted}
 use mathlib.Core.Path.{sym, ◌∙◌}
-use borrow.Author.Rules.{rules}
 use Rattle.records.proofs.mandates.change_mandate.Goals as goal
 
 pub returns-in-Refused : goal.returns-in-Refused

@@ -1,5 +1,4 @@
 use Rattle.model.specs.Effects.{changed}
-use borrow.Author.Rules.{rules}
 use Rattle.records.proofs.mandates.changed_mandate.Goals as goal
 
 pub returns-in-NewBank : goal.returns-in-NewBank

@@ -1,4 +1,3 @@
-use borrow.Author.Rules.{rules}
 use Rattle.records.proofs.mandates.names_added.Goals as goal
 
 pub returns-in-NewCreditor : goal.returns-in-NewCreditor
