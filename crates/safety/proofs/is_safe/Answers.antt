@@ -5,8 +5,6 @@ use mir.Facts.{to_z-of_z}
 use mathlib.Core.Bool.{true}
 use mathlib.Core.Path.{◌≡◌, sym, ◌∙◌, ap}
 use Prim.Native.Nat.{ℕ, ◌^◌, ◌<◌}
-use borrow.Author.Rules.{rules}
-use borrow.Author.Tests.{not-true, not-false}
 use lib.IntN.{pos, neg_ℤ, ◌-ℤ◌}
 use Rattle.positions.proofs.Laws.Integers.{size_fits, bits_small, minus_small, minus_small_fits}
 use Rattle.fitness.specs.Fitness.{fit}

@@ -1,11 +1,9 @@
 -- `safety::sum_moved` meets its contract. The loop: the sum is that of the rows before i. Assumes nothing.
-use mathlib.Core.Path.{◌≡◌, refl, ◌∙◌, ap}
-use Prim.Native.Nat.{◌+◌, ◌≤◌, ◌-◌}
+use mathlib.Core.Path.{refl, ◌∙◌, ap}
+use Prim.Native.Nat.{◌+◌}
 use native.Mathlib.Omega.{arith}
 use borrow.Author.Rules.{rules}
-use Rattle.common.specs.Limits.{collection_row_limit}
-use Rattle.tables.specs.Rows.{rows}
-use Rattle.model.specs.Bounds.{sum_rows, moved_at}
+use Rattle.model.specs.Bounds.{sum_rows}
 use Rattle.safety.proofs.Laws.Sums.{sum_step, sum_small}
 use Rattle.safety.proofs.sum_moved.Goals as goal
 

@@ -1,11 +1,8 @@
-use mathlib.Core.Path.{◌≡◌, refl, ◌∙◌, ap}
-use Prim.Native.Nat.{◌+◌, ◌≤◌, ◌-◌}
-use native.Mathlib.Omega.{arith}
-use borrow.Author.Rules.{rules}
+use mathlib.Core.Path.{◌≡◌}
+use Prim.Native.Nat.{◌≤◌, ◌-◌}
 use Rattle.common.specs.Limits.{collection_row_limit}
 use Rattle.tables.specs.Rows.{rows}
 use Rattle.model.specs.Bounds.{sum_rows, moved_at}
-use Rattle.safety.proofs.Laws.Sums.{sum_step, sum_small}
 use Rattle.safety.proofs.sum_moved.Given as goal
 
 abbrev pub invariant-loop-i : goal.invariant-loop-i

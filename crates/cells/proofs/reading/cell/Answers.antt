@@ -1,7 +1,6 @@
 -- `cell` meets its contract: a cell that is not there reads 0. Assumes nothing.
 use lib.ListN.{get_or-eq_default}
 use mathlib.Core.Path.{sym}
-use borrow.Author.Rules.{rules}
 use Rattle.cells.proofs.reading.cell.Goals as goal
 
 pub returns : goal.returns

@@ -2,7 +2,6 @@
 use lib.ListN.{get_or-eq_default}
 use lib.IntN.{pos}
 use mathlib.Core.Path.{sym}
-use borrow.Author.Rules.{rules}
 use Rattle.cells.proofs.reading.cents_cell.Goals as goal
 
 pub returns : goal.returns

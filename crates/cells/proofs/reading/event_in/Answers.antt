@@ -1,5 +1,4 @@
 -- `event_in` meets its contract: a field a cell. Assumes nothing.
-use borrow.Author.Rules.{rules}
 use Rattle.cells.proofs.reading.event_in.Goals as goal
 
 pub returns : goal.returns

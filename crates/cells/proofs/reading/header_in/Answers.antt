@@ -1,7 +1,6 @@
 -- `header_in` meets its contract, cell by cell. A signed number is read from its 64 bits. Assumes nothing.
 use mir.Syntax.{w64}
 use mir.Facts.{to_z-of_z}
-use borrow.Author.Rules.{rules}
 use Rattle.cells.proofs.reading.header_in.Goals as goal
 
 pub returns : goal.returns

@@ -1,7 +1,6 @@
 -- `put` meets its contract: a store behind the last cell is none. Assumes nothing.
 use lib.Seq.{set_out}
 use mathlib.Core.Path.{sym}
-use borrow.Author.Rules.{rules}
 use Rattle.cells.proofs.writing.put.Goals as goal
 
 pub returns-else-i-cells : goal.returns-else-i-cells

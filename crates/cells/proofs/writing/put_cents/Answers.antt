@@ -1,7 +1,6 @@
 -- `put_cents` meets its contract: a store behind the last cell is none. Assumes nothing.
 use lib.Seq.{set_out}
 use mathlib.Core.Path.{sym}
-use borrow.Author.Rules.{rules}
 use Rattle.cells.proofs.writing.put_cents.Goals as goal
 
 pub returns-else-i-cents : goal.returns-else-i-cents

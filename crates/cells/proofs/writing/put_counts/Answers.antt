@@ -1,5 +1,4 @@
 -- `put_counts` meets its contract, store by store. Assumes nothing.
-use borrow.Author.Rules.{rules}
 use Rattle.cells.proofs.writing.put_counts.Goals as goal
 
 pub returns : goal.returns

@@ -1,5 +1,4 @@
 -- `put_fresh` meets its contract: a header and counts of 0, and no figure. Assumes nothing.
-use borrow.Author.Rules.{rules}
 use Rattle.cells.proofs.writing.put_fresh.Goals as goal
 
 pub returns : goal.returns

@@ -2,7 +2,6 @@
 use mir.Syntax.{w64}
 use mir.Facts.{to_z-of_z}
 use mathlib.Core.Path.{◌∙◌}
-use borrow.Author.Rules.{rules}
 use Rattle.cells.proofs.writing.put_header.Goals as goal
 
 pub returns : goal.returns

@@ -3,7 +3,6 @@ use native.Mathlib.Omega.{arith}
 use mathlib.Core.Path.{◌∙◌}
 use Rattle.lines.specs.Line.{columns}
 use Rattle.report.proofs.Laws.Cut.{not_short, not_other, none_before_is}
-use borrow.Author.Rules.{rules}
 use Rattle.report.proofs.cut.ends_soundly.Goals as goal
 
 pub returns-then-text-le-COLUMNS : goal.returns-then-text-le-COLUMNS

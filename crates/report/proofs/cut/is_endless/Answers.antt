@@ -1,9 +1,5 @@
 -- `cut::is_endless` meets its contract. The loop: what was found so far and what is left have the answer of the whole. Assumes nothing.
-use mathlib.Core.Bool.{◌&&◌}
-use mathlib.Core.Path.{◌≡◌, refl, ◌∙◌}
-use Prim.Native.Nat.{◌-◌, ◌≤◌}
-use lib.ListN.{length}
-use Rattle.report.specs.Cut.{end_from, is_none}
+use mathlib.Core.Path.{refl, ◌∙◌}
 use Rattle.report.proofs.Laws.Cut.{none_step, none_end}
 use borrow.Author.Rules.{rules}
 use Rattle.report.proofs.cut.is_endless.Goals as goal

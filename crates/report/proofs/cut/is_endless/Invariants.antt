@@ -1,10 +1,8 @@
 use mathlib.Core.Bool.{◌&&◌}
-use mathlib.Core.Path.{◌≡◌, refl, ◌∙◌}
+use mathlib.Core.Path.{◌≡◌}
 use Prim.Native.Nat.{◌-◌, ◌≤◌}
 use lib.ListN.{length}
 use Rattle.report.specs.Cut.{end_from, is_none}
-use Rattle.report.proofs.Laws.Cut.{none_step, none_end}
-use borrow.Author.Rules.{rules}
 use Rattle.report.proofs.cut.is_endless.Given as goal
 
 abbrev pub invariant-loop-i : goal.invariant-loop-i

@@ -7,7 +7,6 @@ use Rattle.lines.specs.Line.{columns}
 use Rattle.report.specs.declared.cut.LineEnd.TheVariants.{At}
 use Rattle.report.specs.Cut.{end_from}
 use Rattle.report.proofs.Laws.Cut.{is_at_true, end_from_at}
-use borrow.Author.Rules.{rules}
 use Rattle.report.proofs.cut.line_end.Goals as goal
 
 pub overflow_add-result : goal.overflow_add-result

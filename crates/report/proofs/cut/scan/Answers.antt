@@ -1,13 +1,7 @@
 -- `cut::scan` meets its contract. The loop: the search from i on has the answer of the whole. Assumes nothing.
-use borrow.Author.Rules.{rules}
-use Prim.Native.Nat.{◌-◌}
-use mathlib.Core.Path.{◌≡◌, sym, ◌∙◌}
-use lib.ListN.{length}
+use mathlib.Core.Path.{sym, ◌∙◌}
 use borrow.Author.Tests.{eq-eqb, ne_eqb}
-use Rattle.common.specs.Walk.{first_from}
 use Rattle.common.proofs.Walk.{first_from_hit, first_from_miss, first_from_end}
-use Rattle.report.specs.declared.cut.LineEnd.TheVariants.{At, NoEnd}
-use Rattle.report.specs.Cut.{ends_at, end_from}
 use Rattle.report.proofs.Laws.Cut.{end_from_walk}
 use Rattle.report.proofs.cut.scan.Goals as goal
 

@@ -1,9 +1,5 @@
 -- `cut::skip` meets its contract. The loop: the first end from i on is the first of all. Assumes nothing.
-use mathlib.Core.Path.{◌≡◌, refl, sym, ◌∙◌}
-use Prim.Native.Nat.{◌-◌}
-use lib.ListN.{length}
-use borrow.Author.Tests.{not-false}
-use Rattle.report.specs.Cut.{end_from}
+use mathlib.Core.Path.{refl, sym, ◌∙◌}
 use Rattle.report.proofs.Laws.Cut.{is_none_endless, end_from_past}
 use borrow.Author.Rules.{rules}
 use Rattle.report.proofs.cut.skip.Goals as goal

@@ -1,10 +1,7 @@
-use mathlib.Core.Path.{◌≡◌, refl, sym, ◌∙◌}
+use mathlib.Core.Path.{◌≡◌}
 use Prim.Native.Nat.{◌-◌}
 use lib.ListN.{length}
-use borrow.Author.Tests.{not-false}
 use Rattle.report.specs.Cut.{end_from}
-use Rattle.report.proofs.Laws.Cut.{is_none_endless, end_from_past}
-use borrow.Author.Rules.{rules}
 use Rattle.report.proofs.cut.skip.Given as goal
 
 abbrev pub invariant-loop-i : goal.invariant-loop-i

@@ -4,7 +4,6 @@ use Rattle.report.specs.Layout.{last_number, last_answer, answer_fits}
 use mathlib.Core.Bool.{Bool, true, false, ◌&&◌}
 use lib.Dec.{leb}
 use Rattle.report.proofs.Laws.Layout.{answer_fits_is, answer_fits_room}
-use borrow.Author.Rules.{rules}
 use Rattle.report.proofs.layout.answer_line.Goals as goal
 
 pub put_answer-requires : goal.put_answer-requires

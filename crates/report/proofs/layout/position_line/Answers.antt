@@ -10,7 +10,6 @@ use mir.Syntax.{w64}
 use mir.Val.{to_z, of_z}
 use mir.Facts.{to_z-of_z}
 use Rattle.report.proofs.Laws.Layout.{position_fits_is, position_fits_facts}
-use borrow.Author.Rules.{rules}
 use Rattle.report.proofs.layout.position_line.Goals as goal
 
 pub put_position-requires : goal.put_position-requires

@@ -1,8 +1,5 @@
 -- `put_answer` writes one field behind the other, and the end of the line behind both. Assumes nothing.
-use mathlib.Core.Path.{ap, ◌∙◌}
-use lib.ListN.{length}
-use Rattle.report.proofs.Laws.Layout.{answer_line_written, length_answer}
-use borrow.Author.Rules.{rules}
+use Rattle.report.proofs.Laws.Layout.{answer_line_written}
 use Rattle.report.proofs.layout.put_answer.Goals as goal
 
 pub returns : goal.returns

@@ -1,11 +1,9 @@
 -- `put_position` writes one field behind the other, and the end of the line behind all. Assumes nothing.
 use mathlib.Core.Path.{ap, ◌∙◌}
 use lib.IntN.{nat_abs}
-use lib.ListN.{length}
 use mir.Facts.{to_z-of_z}
 use Rattle.digits.specs.Field.{sign_of}
-use Rattle.report.proofs.Laws.Layout.{position_line_written, length_position}
-use borrow.Author.Rules.{rules}
+use Rattle.report.proofs.Laws.Layout.{position_line_written}
 use Rattle.report.proofs.layout.put_position.Goals as goal
 
 pub returns : goal.returns

@@ -1,6 +1,5 @@
 -- `size` negates a number below 0, which the limit keeps far from the least of 64 bits. Assumes nothing.
 use Rattle.report.proofs.Laws.Layout.{size_negated, size_below, size_above, size_unsigned}
-use borrow.Author.Rules.{rules}
 use Rattle.report.proofs.layout.size.Goals as goal
 
 pub overflow_sub-result : goal.overflow_sub-result

@@ -1,6 +1,5 @@
 use mir.Syntax.{w64}
 use mir.Facts.{to_z-of_z}
-use borrow.Author.Rules.{rules}
 use Rattle.treatments.proofs.treat.is_held.Goals as goal
 
 pub returns : goal.returns

@@ -1,7 +1,6 @@
 use mir.Facts.{to_z-of_z}
 use mir.Syntax.{w64}
 use Rattle.treatments.specs.Treatments.{postable}
-use borrow.Author.Rules.{rules}
 use Rattle.treatments.proofs.treat.is_postable.Goals as goal
 
 pub returns : goal.returns

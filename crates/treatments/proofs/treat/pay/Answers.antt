@@ -1,9 +1,7 @@
 use mir.Syntax.{w64}
 use mir.Facts.{to_z-of_z}
 use Rattle.checking.proofs.Laws.Calls.{done_refused, done_accepted}
-use Rattle.common.proofs.Tests.{not_true, not_false}
 use mathlib.Core.Path.{sym, ◌∙◌}
-use borrow.Author.Rules.{rules}
 use Rattle.treatments.proofs.treat.pay.Goals as goal
 
 pub returns-then-not-is_postable : goal.returns-then-not-is_postable

@@ -1,7 +1,6 @@
 use Rattle.tables.specs.Ledger.{ledger}
 use Rattle.treatments.proofs.Laws.Treatments.{treat_refused, treat_marked, treat_paid}
 use mathlib.Core.Path.{sym, ◌∙◌}
-use borrow.Author.Rules.{rules}
 use Rattle.treatments.proofs.treat.treat.Goals as goal
 
 pub returns-in-Refuse : goal.returns-in-Refuse

@@ -1,5 +1,4 @@
 use Rattle.treatments.proofs.Laws.Treatments.{amount_back, paid_within, written}
-use borrow.Author.Rules.{rules}
 use Rattle.treatments.proofs.treat.write.Goals as goal
 
 pub header_after-requires : goal.header_after-requires

@@ -1,5 +1,4 @@
 use mathlib.Core.Path.{sym, ◌∙◌}
-use borrow.Author.Rules.{rules}
 use Rattle.treatments.proofs.undoing.refund.Goals as goal
 
 pub returns-in_default : goal.returns-in_default

@@ -1,4 +1,3 @@
-use borrow.Author.Rules.{rules}
 use Rattle.treatments.proofs.undoing.undone.Goals as goal
 
 pub returns-in-ByReturn : goal.returns-in-ByReturn

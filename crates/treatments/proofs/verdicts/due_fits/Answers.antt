@@ -1,6 +1,5 @@
 -- Each treatment's answer is that of `due_treated`.
 -- Assumes nothing.
-use borrow.Author.Rules.{rules}
 use Rattle.treatments.proofs.verdicts.due_fits.Goals as goal
 
 pub returns-in-Settle : goal.returns-in-Settle

@@ -1,5 +1,4 @@
 use mathlib.Core.Path.{◌∙◌}
-use borrow.Author.Rules.{rules}
 use Rattle.treatments.proofs.verdicts.go_verdict.Goals as goal
 
 pub returns-in-Settle : goal.returns-in-Settle

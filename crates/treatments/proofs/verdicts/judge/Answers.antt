@@ -1,7 +1,6 @@
 use Rattle.treatments.specs.Treatments.{first_checks, last_checks}
 use Rattle.checking.proofs.Laws.Calls.{judged_then}
 use mathlib.Core.Path.{refl, sym, ◌∙◌}
-use borrow.Author.Rules.{rules}
 use Rattle.treatments.proofs.verdicts.judge.Goals as goal
 
 pub returns-in-Refused : goal.returns-in-Refused

@@ -1,5 +1,4 @@
 use mathlib.Core.Path.{◌∙◌}
-use borrow.Author.Rules.{rules}
 use Rattle.treatments.proofs.verdicts.judge_first.Goals as goal
 
 pub returns : goal.returns

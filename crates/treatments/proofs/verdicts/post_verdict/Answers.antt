@@ -1,4 +1,3 @@
-use borrow.Author.Rules.{rules}
 use Rattle.treatments.proofs.verdicts.post_verdict.Goals as goal
 
 pub returns-in-Amounts : goal.returns-in-Amounts

@@ -1,6 +1,5 @@
 -- Each treatment's answer is that of `state_after`.
 -- Assumes nothing.
-use borrow.Author.Rules.{rules}
 use Rattle.treatments.proofs.verdicts.state_after.Goals as goal
 
 pub returns-in-Settle : goal.returns-in-Settle

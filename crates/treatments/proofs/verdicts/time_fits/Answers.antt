@@ -1,6 +1,5 @@
 -- Each treatment's answer is that of `time_treated`.
 -- Assumes nothing.
-use borrow.Author.Rules.{rules}
 use Rattle.treatments.proofs.verdicts.time_fits.Goals as goal
 
 pub returns-in-Undo : goal.returns-in-Undo

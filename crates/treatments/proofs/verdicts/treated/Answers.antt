@@ -1,6 +1,5 @@
 use Rattle.model.specs.Effects.{treated}
 use mathlib.Core.Path.{◌∙◌}
-use borrow.Author.Rules.{rules}
 use Rattle.treatments.proofs.verdicts.treated.Goals as goal
 
 pub returns : goal.returns

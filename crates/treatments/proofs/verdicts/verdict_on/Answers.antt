@@ -1,5 +1,4 @@
 use mathlib.Core.Path.{sym, ◌∙◌}
-use borrow.Author.Rules.{rules}
 use Rattle.treatments.proofs.verdicts.verdict_on.Goals as goal
 
 pub returns-in-Refused : goal.returns-in-Refused
