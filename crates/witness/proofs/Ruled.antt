@@ -1,7 +1,7 @@
 -- An opened ledger stays fit, whatever the events, so they are answered by the rules alone: no answer need test the memory.
 -- To cite: `opened_answers`, `opened_run`, `opened_fit`, `opened_answer`, `history_answers`. Assumes nothing.
 use mathlib.Core.Path.{◌≡◌, refl, ap, ◌∙◌}
-use mathlib.Core.Bool.{Bool, true, false}
+use mathlib.Core.Bool.{true}
 use mathlib.Core.List.{List, [], ◌∷◌}
 use Prim.Native.Nat.{ℕ}
 use native.Mathlib.Omega.{arith}

@@ -1,5 +1,4 @@
 -- `kalanhav_is_fit` meets its contract: the count of the cells, and the answer of `is_fit`. Assumes nothing.
-use borrow.Author.Rules.{rules}
 use Rattle.foreign.proofs.kalanhav_is_fit.Goals as goal
 
 pub returns : goal.returns

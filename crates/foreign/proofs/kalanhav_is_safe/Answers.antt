@@ -1,5 +1,4 @@
 -- `kalanhav_is_safe` meets its contract: the count of the cells, and the answer of `is_safe`. Assumes nothing.
-use borrow.Author.Rules.{rules}
 use Rattle.foreign.proofs.kalanhav_is_safe.Goals as goal
 
 pub returns : goal.returns

@@ -20,7 +20,7 @@ use Rattle.tables.specs.Limits.{stride}
 use Rattle.tables.specs.Rows.{rows}
 use Rattle.tables.specs.Ledger.{Ledger}
 use Rattle.fitness.specs.Fitness.{fit, sizes_fit}
-use Rattle.opening.specs.Opening.{OpenResult, open_number, open_result, opened, opening}
+use Rattle.opening.specs.Opening.{OpenResult, open_number, open_result, opening}
 use Rattle.opening.proofs.Laws.Opening.{opening_done, opened_done}
 use Rattle.model.specs.declared.QueryAnswer.TheVariants.{Figure}
 use Rattle.model.specs.Step.{in_query, query, query_number}

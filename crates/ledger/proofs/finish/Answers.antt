@@ -2,7 +2,6 @@
 -- Assumes nothing.
 use Rattle.ledger.proofs.Laws.Program.{last_inside, last_total, finished_made, finished_output}
 use native.Mathlib.Omega.{arith}
-use borrow.Author.Rules.{rules}
 use Rattle.ledger.proofs.finish.Goals as goal
 
 pub slice_bounds-list_positions-count : goal.slice_bounds-list_positions-count

@@ -3,7 +3,6 @@ use Rattle.ledger.proofs.Laws.Program.{begins_opened, rows_lent}
 use Rattle.ledger.specs.Program.{mandate_rows, collection_rows}
 use Rattle.tables.specs.Limits.{stride}
 use Prim.Native.Nat.{◌*◌}
-use borrow.Author.Rules.{rules}
 use Rattle.ledger.proofs.main.Goals as goal
 
 pub run-requires : goal.run-requires

@@ -1,9 +1,7 @@
 -- `send` meets its contract: the bytes that are written are there. Assumes nothing.
 use mathlib.Core.Path.{sym, refl, ◌∙◌}
 use lib.Seq.{length-take-le}
-use borrow.Author.Tests.{not-false, not-true}
 use Rattle.common.proofs.Tests.{never}
-use borrow.Author.Rules.{rules}
 use Rattle.ledger.proofs.send.Goals as goal
 
 pub returns-then-not-whole : goal.returns-then-not-whole

@@ -1,15 +1,8 @@
 -- `take_input` meets its contract: some bytes take the run from the start to where a turn begins, and those that it reads to
 -- where it ends. The measure is the turns that are left. Assumes nothing.
-use mathlib.Core.Path.{◌≡◌, refl, ◌∙◌}
-use mathlib.Core.Bool.{true, false}
-use mathlib.Core.List.{[]}
+use mathlib.Core.Path.{refl, ◌∙◌}
 use native.Mathlib.Omega.{arith}
 use lib.Dec.{ltb}
-use lib.ListN.{length}
-use borrow.Author.Rules.{rules}
-use Rattle.tables.specs.Ledger.{ledger}
-use Rattle.run.specs.Run.{run_at}
-use Rattle.ledger.specs.Input.{InputTaken}
 use Rattle.ledger.proofs.Laws.Input.{turned_output, turns_left, more_left, not_past, taken_none, taken_on, same_room}
 use Rattle.ledger.proofs.take_input.Goals as goal
 

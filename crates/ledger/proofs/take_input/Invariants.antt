@@ -1,14 +1,10 @@
-use mathlib.Core.Path.{◌≡◌, refl, ◌∙◌}
+use mathlib.Core.Path.{◌≡◌}
 use mathlib.Core.Bool.{true, false}
 use mathlib.Core.List.{[]}
-use native.Mathlib.Omega.{arith}
-use lib.Dec.{ltb}
 use lib.ListN.{length}
-use borrow.Author.Rules.{rules}
 use Rattle.tables.specs.Ledger.{ledger}
 use Rattle.run.specs.Run.{run_at}
 use Rattle.ledger.specs.Input.{InputTaken}
-use Rattle.ledger.proofs.Laws.Input.{turned_output, turns_left, more_left, not_past, taken_none, taken_on, same_room}
 use Rattle.ledger.proofs.take_input.Given as goal
 
 abbrev pub invariant-loop-turns : goal.invariant-loop-turns

@@ -2,7 +2,6 @@
 use mathlib.Core.Path.{sym}
 use lib.Seq.{length-take-le}
 use Rattle.ledger.proofs.Laws.Input.{turned_made}
-use borrow.Author.Rules.{rules}
 use Rattle.ledger.proofs.take_piece.Goals as goal
 
 pub slice_bounds-lines_past-end-2 : goal.slice_bounds-lines_past-end-2

@@ -20,7 +20,7 @@ use Rattle.tables.specs.Ledger.{Ledger}
 use Rattle.fitness.specs.Fitness.{sizes_fit}
 use Rattle.opening.specs.Opening.{OpenResult, open_number, open_result, fresh, opened, opening}
 use Rattle.opening.proofs.Laws.Opening.{opening_done, opening_refused, opened_done}
-use Rattle.model.specs.Step.{answer, after, run}
+use Rattle.model.specs.Step.{after, run}
 use Rattle.model.specs.Bounds.{Safe}
 use Rattle.model.proofs.Laws.Batch.{after_safe, run_more, opened_safe}
 use Rattle.model.proofs.Laws.Theorem.{demand3}

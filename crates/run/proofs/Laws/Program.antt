@@ -12,7 +12,7 @@ use Rattle.tables.specs.Ledger.{Ledger}
 use Rattle.fitness.specs.Fitness.{fit}
 use Rattle.opening.specs.Opening.{opened}
 use Rattle.model.specs.declared.QueryAnswer.TheVariants.{Figure, Refused}
-use Rattle.model.specs.Step.{after, in_query, figure_of, query, answered, run, Entry, history}
+use Rattle.model.specs.Step.{in_query, figure_of, query, answered, run, Entry, history}
 use Rattle.model.specs.Journal.{Journal, journal, figure_in}
 use Rattle.model.proofs.Laws.Theorem.{demand3}
 use Rattle.run.specs.Run.{positions_output, journal_output}

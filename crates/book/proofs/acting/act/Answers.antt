@@ -1,5 +1,4 @@
 use mathlib.Core.Path.{sym, ◌∙◌}
-use borrow.Author.Rules.{rules}
 use Rattle.book.proofs.acting.act.Goals as goal
 
 pub returns-in-AddCreditor : goal.returns-in-AddCreditor

@@ -1,5 +1,4 @@
 use borrow.Author.Tests.{le-leb, lt-leb}
-use borrow.Author.Rules.{rules}
 use Rattle.book.proofs.acting.find_collection.Goals as goal
 
 pub returns-then-e-ge5 : goal.returns-then-e-ge5

@@ -1,4 +1,3 @@
-use borrow.Author.Rules.{rules}
 use Rattle.book.proofs.acting.find_mandate.Goals as goal
 
 pub returns-then-e : goal.returns-then-e

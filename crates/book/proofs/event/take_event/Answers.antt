@@ -1,9 +1,7 @@
 use Rattle.tables.specs.Ledger.{ledger}
 use Rattle.tables.proofs.Laws.Lookup.{lookup_since_first}
 use Rattle.book.proofs.Laws.Events.{found_for, acted_taken, taken_unfit, taken_refused}
-use Rattle.common.proofs.Tests.{not_true, not_false}
 use mathlib.Core.Path.{sym, ◌∙◌}
-use borrow.Author.Rules.{rules}
 use Rattle.book.proofs.event.take_event.Goals as goal
 
 pub returns-then-not-is_fit : goal.returns-then-not-is_fit

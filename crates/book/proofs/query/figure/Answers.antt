@@ -3,7 +3,6 @@
 use borrow.Author.Tests.{ne_eqb}
 use mir.Facts.{to_z-of_z}
 use mir.Syntax.{w64}
-use borrow.Author.Rules.{rules}
 use Rattle.book.proofs.query.figure.Goals as goal
 
 pub returns-then-kind-eq1 : goal.returns-then-kind-eq1

@@ -4,11 +4,9 @@ use mathlib.Core.Bool.{true}
 use mathlib.Core.Path.{◌≡◌, sym, ◌∙◌}
 use mir.Facts.{to_z-of_z}
 use mir.Syntax.{w64}
-use Rattle.common.proofs.Tests.{not_true, not_false}
 use Rattle.fitness.specs.Fitness.{fit}
 use Rattle.tables.specs.Ledger.{Ledger, ledger}
 use Rattle.book.proofs.Laws.Queries.{queried_unfit, queried_outside, queried_figure}
-use borrow.Author.Rules.{rules}
 use Rattle.book.proofs.query.position.Goals as goal
 
 pub returns-then-not-is_fit : goal.returns-then-not-is_fit

@@ -2,9 +2,7 @@
 use Rattle.foreign.proofs.Laws.Books.{open_refused, open_done}
 use Rattle.cells.specs.Cells.{header_in}
 use Rattle.tables.specs.Ledger.{Ledger, ledger}
-use Rattle.common.proofs.Tests.{not_true, not_false}
 use mathlib.Core.Path.{refl, sym, ◌∙◌}
-use borrow.Author.Rules.{rules}
 use Rattle.foreign.proofs.books.kalanhav_open.Goals as goal
 
 pub returns-then-not-cells_fit : goal.returns-then-not-cells_fit

@@ -2,9 +2,7 @@
 use Rattle.foreign.proofs.Laws.Books.{book_refused, event_done}
 use Rattle.cells.specs.Cells.{header_in}
 use Rattle.tables.specs.Ledger.{Ledger, ledger}
-use Rattle.common.proofs.Tests.{not_true, not_false}
 use mathlib.Core.Path.{refl}
-use borrow.Author.Rules.{rules}
 use Rattle.foreign.proofs.books.kalanhav_take_event.Goals as goal
 
 pub returns-then-not-cells_fit-event_cells_fit : goal.returns-then-not-cells_fit-event_cells_fit

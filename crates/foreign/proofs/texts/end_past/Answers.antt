@@ -1,6 +1,5 @@
 -- `end_past` meets its contract. Assumes nothing.
 use mathlib.Core.Path.{sym, ◌∙◌}
-use borrow.Author.Rules.{rules}
 use Rattle.foreign.proofs.texts.end_past.Goals as goal
 
 pub returns-then-goes_past : goal.returns-then-goes_past

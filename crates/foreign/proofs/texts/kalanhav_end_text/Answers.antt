@@ -1,8 +1,6 @@
 -- `kalanhav_end_text` meets its contract: refused for the count of the cells, or what `end_text` did. Assumes nothing.
 use Rattle.foreign.proofs.Laws.Texts.{end_refused, end_done}
-use Rattle.common.proofs.Tests.{not_true, not_false}
 use mathlib.Core.Path.{sym, ◌∙◌}
-use borrow.Author.Rules.{rules}
 use Rattle.foreign.proofs.texts.kalanhav_end_text.Goals as goal
 
 pub returns-then-not-state_cells_fit : goal.returns-then-not-state_cells_fit

@@ -2,7 +2,6 @@
 use lib.Seq.{take_all, length-take-le}
 use native.Mathlib.Omega.{arith}
 use mathlib.Core.Path.{sym, ◌∙◌}
-use borrow.Author.Rules.{rules}
 use Rattle.foreign.proofs.texts.past_in.Goals as goal
 
 pub returns-then-text-filled : goal.returns-then-text-filled

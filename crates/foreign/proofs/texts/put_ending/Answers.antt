@@ -1,6 +1,5 @@
 -- `put_ending` meets its contract, by the answer. Assumes nothing.
 use mathlib.Core.Path.{◌∙◌}
-use borrow.Author.Rules.{rules}
 use Rattle.foreign.proofs.texts.put_ending.Goals as goal
 
 pub returns-in-Accepted : goal.returns-in-Accepted

@@ -1,6 +1,5 @@
 -- `put_piece` meets its contract, by the answer. Assumes nothing.
 use mathlib.Core.Path.{◌∙◌}
-use borrow.Author.Rules.{rules}
 use Rattle.foreign.proofs.texts.put_piece.Goals as goal
 
 pub returns-in-Accepted : goal.returns-in-Accepted

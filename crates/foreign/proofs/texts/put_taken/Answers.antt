@@ -1,5 +1,4 @@
 -- `put_taken` meets its contract: a header and counts are written. Assumes nothing.
-use borrow.Author.Rules.{rules}
 use Rattle.foreign.proofs.texts.put_taken.Goals as goal
 
 pub returns : goal.returns

@@ -4,11 +4,10 @@ use mathlib.Core.Path.{◌≡◌}
 use mathlib.Core.Bool.{true}
 use lib.Dec.{ltb}
 use borrow.Author.Tests.{le-leb, lt-leb, ltb-true}
-use Rattle.common.proofs.Tests.{and_halves, not_true, not_false}
+use Rattle.common.proofs.Tests.{and_halves}
 use Rattle.report.specs.Layout.{last_number}
 use Rattle.run.specs.Run.{ends_line}
 use Rattle.listing.proofs.Laws.Ending.{end_refused, end_none, end_line}
-use borrow.Author.Rules.{rules}
 use Rattle.listing.proofs.ending.end_text.Goals as goal
 
 pub returns-then-out-lt-ANSWER : goal.returns-then-out-lt-ANSWER

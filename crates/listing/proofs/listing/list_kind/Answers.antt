@@ -1,7 +1,7 @@
 -- `list_kind` writes number by number: the lines of the numbers up to i stand in the buffer, and `next` is behind them.
 -- Assumes nothing.
 use mathlib.Core.Path.{◌≡◌, ap, ◌∙◌}
-use Prim.Native.Nat.{◌+◌, ◌-◌, ◌≤◌}
+use Prim.Native.Nat.{◌+◌}
 use native.Mathlib.Nat.{le_antisymm}
 use lib.IntN.{ℤ, pos}
 use lib.ListN.{length, get_or}
@@ -11,8 +11,8 @@ use Rattle.digits.specs.Field.{pasted}
 use Rattle.report.specs.Layout.{position_fits}
 use Rattle.listing.specs.Listing.{table_output}
 use Rattle.run.specs.Run.{position_output}
-use Rattle.digits.proofs.Laws.Buffer.{Written, written_length}
-use Rattle.listing.proofs.Laws.Listing.{table_start, table_inside, table_fits, table_more}
+use Rattle.digits.proofs.Laws.Buffer.{Written}
+use Rattle.listing.proofs.Laws.Listing.{table_start, table_fits, table_more}
 use borrow.Author.Rules.{rules}
 use Rattle.listing.proofs.listing.list_kind.Goals as goal
 

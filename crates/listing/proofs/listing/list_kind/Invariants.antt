@@ -1,17 +1,7 @@
-use mathlib.Core.Path.{◌≡◌, ap, ◌∙◌}
-use Prim.Native.Nat.{◌+◌, ◌-◌, ◌≤◌}
-use native.Mathlib.Nat.{le_antisymm}
-use lib.IntN.{ℤ, pos}
-use lib.ListN.{length, get_or}
-use mir.Syntax.{w64}
-use mir.Facts.{to_z-of_z}
-use Rattle.digits.specs.Field.{pasted}
-use Rattle.report.specs.Layout.{position_fits}
+use Prim.Native.Nat.{◌-◌, ◌≤◌}
+use lib.ListN.{length}
 use Rattle.listing.specs.Listing.{table_output}
-use Rattle.run.specs.Run.{position_output}
-use Rattle.digits.proofs.Laws.Buffer.{Written, written_length}
-use Rattle.listing.proofs.Laws.Listing.{table_start, table_inside, table_fits, table_more}
-use borrow.Author.Rules.{rules}
+use Rattle.digits.proofs.Laws.Buffer.{Written}
 use Rattle.listing.proofs.listing.list_kind.Given as goal
 
 abbrev pub invariant-loop-i : goal.invariant-loop-i

@@ -7,7 +7,6 @@ use native.Mathlib.Omega.{arith}
 use lib.IntN.{ℤ}
 use mir.Syntax.{w64}
 use mir.Val.{to_z, of_z}
-use Rattle.common.proofs.Tests.{not_true, not_false}
 use Rattle.positions.proofs.Laws.Integers.{bits_back}
 use Rattle.digits.specs.Field.{pasted}
 use Rattle.tables.specs.Ledger.{Ledger, ledger}

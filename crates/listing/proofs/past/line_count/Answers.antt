@@ -1,8 +1,5 @@
 -- `past::line_count` meets its contract. The loop: n lines end before place i. Assumes nothing.
-use Prim.Native.Nat.{◌-◌}
-use native.Mathlib.Omega.{arith}
-use lib.ListN.{length}
-use Rattle.listing.proofs.Laws.Past.{Counted, count_start, count_step, count_end}
+use Rattle.listing.proofs.Laws.Past.{count_start, count_step, count_end}
 use borrow.Author.Rules.{rules}
 use Rattle.listing.proofs.past.line_count.Goals as goal
 

@@ -1,8 +1,6 @@
 use Prim.Native.Nat.{◌-◌}
-use native.Mathlib.Omega.{arith}
 use lib.ListN.{length}
-use Rattle.listing.proofs.Laws.Past.{Counted, count_start, count_step, count_end}
-use borrow.Author.Rules.{rules}
+use Rattle.listing.proofs.Laws.Past.{Counted}
 use Rattle.listing.proofs.past.line_count.Given as goal
 
 abbrev pub invariant-loop-i : goal.invariant-loop-i

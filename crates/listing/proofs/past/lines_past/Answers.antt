@@ -1,6 +1,5 @@
 -- `past::lines_past` meets its contract: too few bytes, too few lines, or those over. Assumes nothing.
 use Rattle.listing.proofs.Laws.Past.{few_bytes, few_lines, lines_over}
-use borrow.Author.Rules.{rules}
 use Rattle.listing.proofs.past.lines_past.Goals as goal
 
 pub returns-then-text-left : goal.returns-then-text-left

@@ -2,7 +2,6 @@
 -- Assumes nothing.
 use mathlib.Core.Path.{refl}
 use Rattle.replay.specs.Replay.{event_at}
-use borrow.Author.Rules.{rules}
 use Rattle.replay.proofs.cells.event_at.Goals as goal
 
 pub returns : goal.returns

@@ -1,5 +1,4 @@
 use Rattle.replay.proofs.Laws.Replay.{was_opened, replayed_refused, replayed_done}
-use borrow.Author.Rules.{rules}
 use Rattle.replay.proofs.replay.replay.Goals as goal
 
 pub returns-in_default : goal.returns-in_default

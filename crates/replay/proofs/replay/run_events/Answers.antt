@@ -1,9 +1,6 @@
-use Rattle.replay.proofs.Laws.Replay.{Running, running_start, running_step, running_end}
-use Rattle.tables.specs.Ledger.{ledger}
-use lib.ListN.{length}
+use Rattle.replay.proofs.Laws.Replay.{running_start, running_step, running_end}
 use native.Mathlib.Omega.{arith}
-use Prim.Native.Nat.{◌≤◌, ◌-◌}
-use mathlib.Core.Path.{◌≡◌, refl, ◌∙◌}
+use mathlib.Core.Path.{refl, ◌∙◌}
 use Rattle.replay.proofs.replay.run_events.Goals as goal
 
 pub loop-i-init : goal.loop-i-init

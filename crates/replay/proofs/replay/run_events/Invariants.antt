@@ -1,9 +1,8 @@
-use Rattle.replay.proofs.Laws.Replay.{Running, running_start, running_step, running_end}
+use Rattle.replay.proofs.Laws.Replay.{Running}
 use Rattle.tables.specs.Ledger.{ledger}
 use lib.ListN.{length}
-use native.Mathlib.Omega.{arith}
 use Prim.Native.Nat.{◌≤◌, ◌-◌}
-use mathlib.Core.Path.{◌≡◌, refl, ◌∙◌}
+use mathlib.Core.Path.{◌≡◌}
 use Rattle.replay.proofs.replay.run_events.Given as goal
 
 abbrev pub invariant-loop-i : goal.invariant-loop-i

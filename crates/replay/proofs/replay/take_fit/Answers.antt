@@ -2,7 +2,6 @@ use Rattle.tables.specs.Ledger.{ledger}
 use Rattle.tables.proofs.Laws.Lookup.{lookup_since_first}
 use Rattle.book.proofs.Laws.Events.{found_for, acted_taken, taken_refused}
 use mathlib.Core.Path.{sym, ◌∙◌}
-use borrow.Author.Rules.{rules}
 use Rattle.replay.proofs.replay.take_fit.Goals as goal
 
 pub returns-in-Refused : goal.returns-in-Refused

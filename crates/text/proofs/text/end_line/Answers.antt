@@ -2,7 +2,6 @@
 -- Assumes nothing.
 use native.Mathlib.Omega.{arith}
 use Rattle.text.proofs.Laws.Text.{output_none, output_line}
-use borrow.Author.Rules.{rules}
 use Rattle.text.proofs.text.end_line.Goals as goal
 
 pub returns-then-p-ge-LAST_NUMBER : goal.returns-then-p-ge-LAST_NUMBER

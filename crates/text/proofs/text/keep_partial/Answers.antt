@@ -1,9 +1,7 @@
 -- `keep_partial` meets its contract. The loop: the first i bytes of the line have been moved to the front. Assumes nothing.
 use native.Mathlib.Omega.{arith}
-use mathlib.Core.Path.{◌≡◌, refl}
-use Prim.Native.Nat.{◌-◌, ◌≤◌}
-use lib.ListN.{length}
-use Rattle.text.proofs.Laws.Text.{Moving, partial_length, moving_start, moving_step, moving_end}
+use mathlib.Core.Path.{refl}
+use Rattle.text.proofs.Laws.Text.{partial_length, moving_start, moving_step, moving_end}
 use borrow.Author.Rules.{rules}
 use Rattle.text.proofs.text.keep_partial.Goals as goal
 

@@ -1,9 +1,7 @@
-use native.Mathlib.Omega.{arith}
-use mathlib.Core.Path.{◌≡◌, refl}
+use mathlib.Core.Path.{◌≡◌}
 use Prim.Native.Nat.{◌-◌, ◌≤◌}
 use lib.ListN.{length}
-use Rattle.text.proofs.Laws.Text.{Moving, partial_length, moving_start, moving_step, moving_end}
-use borrow.Author.Rules.{rules}
+use Rattle.text.proofs.Laws.Text.{Moving}
 use Rattle.text.proofs.text.keep_partial.Given as goal
 
 abbrev pub invariant-loop-i : goal.invariant-loop-i

@@ -1,5 +1,4 @@
 use mathlib.Core.Path.{sym}
-use borrow.Author.Rules.{rules}
 use Rattle.text.proofs.text.may_act.Goals as goal
 
 pub returns-then-prepared : goal.returns-then-prepared

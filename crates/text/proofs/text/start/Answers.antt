@@ -1,6 +1,5 @@
 use Rattle.index.proofs.Laws.Following.{index_holds}
 use Rattle.tables.proofs.Laws.Lookup.{lookup_since_first}
-use borrow.Author.Rules.{rules}
 use Rattle.text.proofs.text.start.Goals as goal
 
 pub returns-then-indexed : goal.returns-then-indexed

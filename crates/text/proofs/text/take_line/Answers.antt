@@ -3,7 +3,6 @@
 use mathlib.Core.Path.{sym, ◌∙◌}
 use Rattle.lines.proofs.Laws.Promises.{cells_refused}
 use Rattle.text.proofs.Laws.Text.{line_refused, line_taken, line_event}
-use borrow.Author.Rules.{rules}
 use Rattle.text.proofs.text.take_line.Goals as goal
 
 pub take_sound-requires : goal.take_sound-requires

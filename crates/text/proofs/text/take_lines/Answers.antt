@@ -1,14 +1,8 @@
 -- `take_lines` meets its contract. The loop: the lines before `at` have been answered. Assumes nothing.
 use native.Mathlib.Omega.{arith}
-use mathlib.Core.List.{[]}
-use mathlib.Core.Path.{◌≡◌, refl, sym, ◌∙◌}
-use Prim.Native.Nat.{◌-◌}
-use lib.ListN.{length}
-use Rattle.tables.specs.Ledger.{ledger}
-use Rattle.run.specs.Run.{run_at}
+use mathlib.Core.Path.{refl, sym, ◌∙◌}
 use Rattle.report.proofs.Laws.Cut.{end_from_at, end_from_none}
-use Rattle.text.proofs.Laws.Text.{AnsweredTo, answered_start, answered_line, answered_end, line_room}
-use borrow.Author.Rules.{rules}
+use Rattle.text.proofs.Laws.Text.{answered_start, answered_line, answered_end, line_room}
 use Rattle.text.proofs.text.take_lines.Goals as goal
 
 pub loop-at-init : goal.loop-at-init

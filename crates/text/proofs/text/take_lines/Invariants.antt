@@ -1,13 +1,10 @@
-use native.Mathlib.Omega.{arith}
 use mathlib.Core.List.{[]}
-use mathlib.Core.Path.{◌≡◌, refl, sym, ◌∙◌}
+use mathlib.Core.Path.{◌≡◌}
 use Prim.Native.Nat.{◌-◌}
 use lib.ListN.{length}
 use Rattle.tables.specs.Ledger.{ledger}
 use Rattle.run.specs.Run.{run_at}
-use Rattle.report.proofs.Laws.Cut.{end_from_at, end_from_none}
-use Rattle.text.proofs.Laws.Text.{AnsweredTo, answered_start, answered_line, answered_end, line_room}
-use borrow.Author.Rules.{rules}
+use Rattle.text.proofs.Laws.Text.{AnsweredTo}
 use Rattle.text.proofs.text.take_lines.Given as goal
 
 abbrev pub invariant-loop-at : goal.invariant-loop-at

@@ -1,9 +1,8 @@
 -- `take_sound` meets its contract: refusal 2, or what `act` did by the rows that were found. Assumes nothing.
 use Rattle.tables.specs.Ledger.{ledger}
 use Rattle.book.proofs.Laws.Events.{found_for, acted_taken, taken_unfit}
-use Rattle.common.proofs.Tests.{not_true, not_false, and_halves}
+use Rattle.common.proofs.Tests.{and_halves}
 use mathlib.Core.Path.{sym, ◌∙◌}
-use borrow.Author.Rules.{rules}
 use Rattle.text.proofs.text.take_sound.Goals as goal
 
 pub may_act-requires : goal.may_act-requires

@@ -1,10 +1,8 @@
 -- `take_text` meets its contract: refused, or the lines answered and the partial one moved to the front. Assumes nothing.
 use mathlib.Core.Path.{sym, ◌∙◌}
-use Rattle.common.proofs.Tests.{not_true, not_false}
 use Rattle.index.proofs.Laws.Following.{indexed_made}
 use Rattle.safety.proofs.Laws.Safety.{safe_facts}
 use Rattle.text.proofs.Laws.Text.{piece_long, piece_count, piece_inside, piece_room, piece_refused, piece_taken}
-use borrow.Author.Rules.{rules}
 use Rattle.text.proofs.text.take_text.Goals as goal
 
 pub returns-then-not-piece_fits : goal.returns-then-not-piece_fits
