@@ -4,7 +4,7 @@
 The twin says what is to be written for inputs that no case file should hold: the limit of lines, lines of megabytes, lines at every place
 across the end of a piece that is read, rows looked up in later pieces than they were added in. A read that would block or was interrupted,
 and a write that would block, is tried again; one that fails ends the run, with one line on standard error. A run that came to its end is
-known by the last line that it wrote (tests/whole); its exit status is always 0."""
+known by the last line that it wrote (tests/whole); its exit status is 0 whatever becomes of them."""
 import errno
 import functools
 import os
