@@ -1,7 +1,6 @@
 -- An event acted on by the rows that were found of what it names: the promise of the call that its kind asks for. That it is the model's
 -- answer and effect on a fit ledger, of an event within its limits: `acted_taken` of proofs/Laws/Events. Assumes nothing.
-use Rattle.std.specs.Prelude.{Bool, ◌&&◌, ℕ, leb}
-use Rattle.tables.specs.declared.Found.{Found}
+use Rattle.std.specs.Prelude.{Bool, ◌&&◌, ℕ, leb, Option}
 use Rattle.tables.specs.Ledger.{Ledger}
 use Rattle.model.specs.declared.Action.{Action}
 use Rattle.model.specs.declared.Action.TheVariants.{AddCreditor, AddMandate, ChangeMandate, Collect, Treat}
@@ -17,7 +16,7 @@ abbrev pub names_collection : ℕ → Bool
 names_collection kind = leb 5 kind
 
 -- from the ledger l to the ledger l'
-abbrev pub ActedOn : Found → Found → Ledger → ℕ → Action → Outcome → Ledger → Type 0
+abbrev pub ActedOn : Option ℕ → Option ℕ → Ledger → ℕ → Action → Outcome → Ledger → Type 0
 ActedOn mandate collection l date (AddCreditor number bank) r l' = CreditorAdded l date number bank r l'
 ActedOn mandate collection l date (AddMandate m) r l' = MandateAdded mandate l date m r l'
 ActedOn mandate collection l date (ChangeMandate n c) r l' = MandateChanged mandate l date c r l'

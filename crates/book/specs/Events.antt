@@ -1,11 +1,11 @@
 -- The calls for an event and for a query: what they promise. Assumes nothing.
-use Rattle.std.specs.Prelude.{◌≡◌, cond, ◌&&◌, ℕ, pos}
+use Rattle.std.specs.Prelude.{◌≡◌, cond, ◌&&◌, ℕ, pos, ℤ, Result}
 use Rattle.events.specs.declared.Event.{Event}
 use Rattle.tables.specs.Ledger.{Ledger}
 use Rattle.fitness.specs.Fitness.{fit}
-use Rattle.model.specs.declared.QueryAnswer.{QueryAnswer}
 use Rattle.model.specs.Step.{answer_number, answer, event_number, after, in_query, figure_of, query, query_number, answered}
 use Rattle.checking.specs.declared.Outcome.{Outcome}
+use Rattle.refusals.specs.declared.Refusal.{Refusal}
 
 -- the event given to the ledger l: the answer, and the ledger l' after it
 pub record Taken (l : Ledger) (e : Event) (r : Outcome) (l' : Ledger) : Type 0 where
@@ -14,7 +14,7 @@ pub record Taken (l : Ledger) (e : Event) (r : Outcome) (l' : Ledger) : Type 0 w
   pub after_is : l' ≡ after l e
 
 -- the query given to the ledger l: the answer, its number and the figure
-pub record Queried (l : Ledger) (kind number : ℕ) (r : QueryAnswer) : Type 0 where
+pub record Queried (l : Ledger) (kind number : ℕ) (r : Result ℤ Refusal) : Type 0 where
   pub answer_is : r ≡ query l kind number
   pub number_is : query_number r ≡ cond (fit l) (cond (in_query kind number) 0 5) 2
   pub figure_is : answered r ≡ cond (fit l && in_query kind number) (figure_of l kind number) (pos 0)

@@ -1,6 +1,5 @@
 // An event acted on, by what its kind asks for and by the rows that were found of what it names: specs/Acting.
 ghost use Rattle.std.specs.Prelude.{◌≡◌, cond};
-ghost use Rattle.tables.specs.declared.Found.TheVariants.{Nothing};
 ghost use Rattle.tables.specs.Ledger.{ledger};
 ghost use Rattle.tables.specs.Lookup.{lookup_since};
 ghost use Rattle.model.specs.Actions.{action_of};
@@ -14,27 +13,27 @@ use records::collects::collect;
 use records::creditors::add_creditor;
 use records::mandates::{add_mandate, change_mandate};
 use tables::lookup::find_since;
-use tables::{Found, Header};
+use tables::Header;
 use treatments::treat::treat;
 
 // The row of the mandate that an event names, looked for from a row on.
-pub fn find_mandate(e: Event, mandates: &[u64], used: usize, since: usize) -> Found
-    ensures { result ≡ cond (names_mandate e.kind) (lookup_since mandates.now used e.mandate since) Nothing }
+pub fn find_mandate(e: Event, mandates: &[u64], used: usize, since: usize) -> Option<usize>
+    ensures { result ≡ cond (names_mandate e.kind) (lookup_since mandates.now used e.mandate since) None }
 {
     if (2 <= e.kind) & (e.kind <= 5) {
         return find_since(mandates, used, e.mandate, since);
     }
-    Found::Nothing
+    None
 }
 
 // The row of the collection that an event names, looked for from a row on.
-pub fn find_collection(e: Event, collections: &[u64], used: usize, since: usize) -> Found
-    ensures { result ≡ cond (names_collection e.kind) (lookup_since collections.now used e.a since) Nothing }
+pub fn find_collection(e: Event, collections: &[u64], used: usize, since: usize) -> Option<usize>
+    ensures { result ≡ cond (names_collection e.kind) (lookup_since collections.now used e.a since) None }
 {
     if 5 <= e.kind {
         return find_since(collections, used, e.a, since);
     }
-    Found::Nothing
+    None
 }
 
 // An event done to any lent memory, where `mandate` and `collection` are the rows of what it names. What the event names is not tested
@@ -42,8 +41,8 @@ pub fn find_collection(e: Event, collections: &[u64], used: usize, since: usize)
 pub fn act(
     header: Header,
     e: Event,
-    mandate: Found,
-    collection: Found,
+    mandate: Option<usize>,
+    collection: Option<usize>,
     mandates: &mut [u64],
     collections: &mut [u64],
     creditors: &mut [u64],

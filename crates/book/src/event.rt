@@ -5,9 +5,8 @@ ghost use Rattle.book.specs.Events.{Taken};
 use crate::acting::{act, find_collection, find_mandate};
 use checking::Outcome;
 use events::Event;
-use events::limits::{Checked, check};
+use events::limits::check;
 use fitness::fitness::is_fit;
-use model::Answer;
 use refusals::Refusal;
 use tables::Header;
 
@@ -35,16 +34,16 @@ pub fn take_event(
         bank_positions,
     ) {
         return Outcome {
-            answer: Answer::Refused(Refusal::UnfitMemory),
+            answer: Err(Refusal::UnfitMemory),
             header: header,
         };
     }
     match check(e) {
-        Checked::Refused(r) => Outcome {
-            answer: Answer::Refused(r),
+        Err(r) => Outcome {
+            answer: Err(r),
             header: header,
         },
-        Checked::Within => act(
+        Ok(()) => act(
             header,
             e,
             find_mandate(e, mandates, header.mandates, 0),

@@ -6,7 +6,6 @@ ghost use Rattle.book.specs.Events.{Queried};
 
 use common::{BANKS, CREDITORS, DEBTORS};
 use fitness::fitness::is_fit;
-use model::QueryAnswer;
 use positions::posting::position_of;
 use refusals::Refusal;
 use tables::Header;
@@ -61,7 +60,7 @@ pub fn position(
     creditor_positions: &[i64],
     debtor_positions: &[i64],
     bank_positions: &[i64],
-) -> QueryAnswer
+) -> Result<i64, Refusal>
     ensures { Queried (ledger header mandates.now collections.now creditors.now creditor_positions.now debtor_positions.now bank_positions.now) kind number result }
 {
     if !is_fit(
@@ -73,12 +72,12 @@ pub fn position(
         debtor_positions,
         bank_positions,
     ) {
-        return QueryAnswer::Refused(Refusal::UnfitMemory);
+        return Err(Refusal::UnfitMemory);
     }
     if !in_query(kind, number) {
-        return QueryAnswer::Refused(Refusal::BadField);
+        return Err(Refusal::BadField);
     }
-    QueryAnswer::Figure(figure(
+    Ok(figure(
         header,
         kind,
         number,

@@ -1,12 +1,8 @@
 -- Day arithmetic. Document 01, "Calendar": twelve counts, each of the days before a month, with the leap rule.
 -- Day 0 is 1 January 2000. That these conversions are right is `Conversions` of specs/Promises, which needs no look at them.
 -- Assumes nothing.
-use Rattle.std.specs.Prelude.{ℕ, ◌+◌, ◌-◌, ◌*◌, ◌/◌, cond, ◌&&◌, List, [], ◌∷◌, ltb, leb, get_or}
+use Rattle.std.specs.Prelude.{ℕ, ◌+◌, ◌-◌, ◌*◌, ◌/◌, cond, ◌&&◌, List, [], ◌∷◌, ltb, leb, get_or, Option, Some, None}
 use Rattle.calendar.specs.Gregorian.{year, month, day_of_month, date_of_parts, leap_day, is_date, first_year}
-use Rattle.calendar.specs.declared.DayAnswer.{DayAnswer}
-use Rattle.calendar.specs.declared.DayAnswer.TheVariants.{Day, NoDay}
-use Rattle.calendar.specs.declared.DateAnswer.{DateAnswer}
-use Rattle.calendar.specs.declared.DateAnswer.TheVariants.{Date, NoDate}
 
 -- ---- from a date to its day number
 
@@ -29,14 +25,14 @@ calendar_days = 73049
 unfoldable pub day_number : ℕ → ℕ
 day_number x = year_start (year x - first_year) + days_before (leap_day (year x)) (month x) + (day_of_month x - 1)
 
-unfoldable pub day_of : ℕ → DayAnswer
-day_of x = cond (is_date x) (Day (day_number x)) NoDay
+unfoldable pub day_of : ℕ → Option ℕ
+day_of x = cond (is_date x) (Some (day_number x)) None
 
 -- ---- and back
 
 -- a day of the calendar
-unfoldable pub in_calendar : ℕ → DayAnswer
-in_calendar n = cond (ltb n calendar_days) (Day n) NoDay
+unfoldable pub in_calendar : ℕ → Option ℕ
+in_calendar n = cond (ltb n calendar_days) (Some n) None
 
 -- the year of the day n is 2000 + year_at n: n / 366 or one more
 unfoldable pub year_at : ℕ → ℕ
@@ -53,5 +49,5 @@ date_in y r = date_of_parts y (month_at (leap_day y) r) (r - days_before (leap_d
 unfoldable pub date_at : ℕ → ℕ
 date_at n = date_in (first_year + year_at n) (n - year_start (year_at n))
 
-unfoldable pub date_of : ℕ → DateAnswer
-date_of n = cond (ltb n calendar_days) (Date (date_at n)) NoDate
+unfoldable pub date_of : ℕ → Option ℕ
+date_of n = cond (ltb n calendar_days) (Some (date_at n)) None

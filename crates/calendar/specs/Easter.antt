@@ -1,12 +1,8 @@
 -- Easter Sunday. Document 01, "Calendar": the Gregorian computus, letter by letter.
 -- Assumes nothing.
-use Rattle.std.specs.Prelude.{ℕ, ◌+◌, ◌-◌, ◌*◌, ◌/◌, ◌%◌, Bool, cond, ◌&&◌, leb}
+use Rattle.std.specs.Prelude.{ℕ, ◌+◌, ◌-◌, ◌*◌, ◌/◌, ◌%◌, Bool, cond, ◌&&◌, leb, Option, Some, None}
 use Rattle.calendar.specs.Gregorian.{date_of_parts, first_year, last_year}
 use Rattle.calendar.specs.DayNumber.{day_number}
-use Rattle.calendar.specs.declared.DayAnswer.{DayAnswer}
-use Rattle.calendar.specs.declared.DayAnswer.TheVariants.{Day, NoDay}
-use Rattle.calendar.specs.declared.DateAnswer.{DateAnswer}
-use Rattle.calendar.specs.declared.DateAnswer.TheVariants.{Date, NoDate}
 
 -- s of the year Y
 unfoldable pub computus : ℕ → ℕ
@@ -33,8 +29,8 @@ easter_sunday y = date_of_parts y (computus y / 31) (computus y % 31 + 1)
 abbrev pub in_table : ℕ → Bool
 in_table y = leb first_year y && leb y last_year
 
-unfoldable pub easter_of : ℕ → DateAnswer
-easter_of y = cond (in_table y) (Date (easter_sunday y)) NoDate
+unfoldable pub easter_of : ℕ → Option ℕ
+easter_of y = cond (in_table y) (Some (easter_sunday y)) None
 
-unfoldable pub easter_day_of : ℕ → DayAnswer
-easter_day_of y = cond (in_table y) (Day (day_number (easter_sunday y))) NoDay
+unfoldable pub easter_day_of : ℕ → Option ℕ
+easter_day_of y = cond (in_table y) (Some (day_number (easter_sunday y))) None

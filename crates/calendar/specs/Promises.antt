@@ -1,14 +1,12 @@
 -- What is promised of the calendar. Each promise is one type here; proofs/Laws/Promises has a proof of it.
 -- Who believes the leap rule, the tests of a date (specs/Gregorian), the eight tests of a closed day and the one known weekday
 -- (specs/Target) need not look into the arithmetic of specs/DayNumber, nor into any search.
-use Rattle.std.specs.Prelude.{◌≡◌, true, cond, ℕ, zero, suc, ◌+◌, ◌*◌, ◌≤◌, ◌<◌}
+use Rattle.std.specs.Prelude.{◌≡◌, true, cond, ℕ, zero, suc, ◌+◌, ◌*◌, ◌≤◌, ◌<◌, Some}
 use Rattle.calendar.specs.Gregorian.{is_date, in_range, first_year, last_year}
 use Rattle.calendar.specs.DayNumber.{calendar_days, day_number, date_at}
 use Rattle.calendar.specs.Easter.{easter_sunday}
 use Rattle.calendar.specs.Target.{weekday, business_day, is_open, First, first_open, open_after, Last, last_open_before, first_business_day}
 use Rattle.calendar.specs.Periods.{period_end}
-use Rattle.calendar.specs.declared.DayAnswer.TheVariants.{Day}
-use Rattle.calendar.specs.declared.DateAnswer.TheVariants.{Date}
 use Rattle.calendar.specs.declared.Period.{Period}
 
 -- ---- dates and day numbers are two names of the same days, in the same order
@@ -56,7 +54,7 @@ NthBusinessDay = (n d : ℕ) → open_after (suc n) d < calendar_days → Nth (s
 -- the last business day before a day is found, at most five days before it; from the sixth day on, so from every date of the range
 pub record LastFound (n : ℕ) : Type 0 where
   pub day : ℕ
-  pub is : last_open_before n ≡ Day day
+  pub is : last_open_before n ≡ Some day
   pub last : Last n day
   pub near : n ≤ day + 5
 
@@ -67,7 +65,7 @@ LastBusinessDay = (n : ℕ) → 5 ≤ n → n < calendar_days → LastFound n
 
 pub record KeptInRange (x : ℕ) : Type 0 where
   pub date : ℕ
-  pub is : first_business_day x ≡ Date date
+  pub is : first_business_day x ≡ Some date
   pub in_range_lem : in_range date ≡ true
   pub business : business_day date ≡ true
   pub from : x ≤ date
@@ -79,7 +77,7 @@ KeptDue = (x : ℕ) → in_range x ≡ true → KeptInRange x
 -- a period of up to ten years from a date of the range ends on a date, none before its start
 pub record EndsAfter (p : Period) (x : ℕ) : Type 0 where
   pub date : ℕ
-  pub is : period_end p x ≡ Date date
+  pub is : period_end p x ≡ Some date
   pub is_date_lem : is_date date ≡ true
   pub from : x ≤ date
 

@@ -1,15 +1,11 @@
 -- Business days. Document 01, "Calendar": all but the weekend and the six TARGET closing days.
 -- Days go by their number here; a date stands for its day.
 -- Assumes nothing.
-use Rattle.std.specs.Prelude.{◌≡◌, Bool, true, false, cond, not, ◌&&◌, [], ◌∷◌, ℕ, zero, suc, ◌+◌, ◌%◌, ◌≤◌, ◌<◌, ltb, eqb}
+use Rattle.std.specs.Prelude.{◌≡◌, Bool, true, false, cond, not, ◌&&◌, [], ◌∷◌, ℕ, zero, suc, ◌+◌, ◌%◌, ◌≤◌, ◌<◌, ltb, eqb, Option, Some, None}
 use Rattle.common.specs.Tests.{any_of}
 use Rattle.calendar.specs.Gregorian.{year, month_day, is_date}
 use Rattle.calendar.specs.DayNumber.{calendar_days, day_number, date_at, date_of}
 use Rattle.calendar.specs.Easter.{easter_sunday}
-use Rattle.calendar.specs.declared.DayAnswer.{DayAnswer}
-use Rattle.calendar.specs.declared.DayAnswer.TheVariants.{Day, NoDay}
-use Rattle.calendar.specs.declared.DateAnswer.{DateAnswer}
-use Rattle.calendar.specs.declared.DateAnswer.TheVariants.{NoDate}
 
 -- ---- business days
 
@@ -70,20 +66,20 @@ pub record Last (n r : ℕ) : Type 0 where
   pub is_open_lem : is_open r ≡ true
   pub shut : (j : ℕ) → r < j → j < n → is_open j ≡ false
 
-unfoldable pub last_open_before : ℕ → DayAnswer
-last_open_before zero = NoDay
-last_open_before (suc n) = let earlier = last_open_before n in cond (is_open n) (Day n) earlier
+unfoldable pub last_open_before : ℕ → Option ℕ
+last_open_before zero = None
+last_open_before (suc n) = let earlier = last_open_before n in cond (is_open n) (Some n) earlier
 
 -- ---- the same for dates
 
 -- the day of an answer, as a date
-abbrev pub answer_date : DayAnswer → DateAnswer
-answer_date (Day n) = date_of n
-answer_date NoDay = NoDate
+abbrev pub answer_date : Option ℕ → Option ℕ
+answer_date (Some n) = date_of n
+answer_date None = None
 
 -- "Kept due is the first business day on or after the requested date"
-unfoldable pub first_business_day : ℕ → DateAnswer
-first_business_day x = cond (is_date x) (date_of (first_open (day_number x))) NoDate
+unfoldable pub first_business_day : ℕ → Option ℕ
+first_business_day x = cond (is_date x) (date_of (first_open (day_number x))) None
 
-unfoldable pub last_business_day_before : ℕ → DateAnswer
-last_business_day_before x = cond (is_date x) (answer_date (last_open_before (day_number x))) NoDate
+unfoldable pub last_business_day_before : ℕ → Option ℕ
+last_business_day_before x = cond (is_date x) (answer_date (last_open_before (day_number x))) None

@@ -4,7 +4,7 @@ ghost use Rattle.calendar.specs.Gregorian.{month_day, leap_day, first_year};
 ghost use Rattle.calendar.specs.DayNumber.{year_start, day_number};
 ghost use Rattle.calendar.specs.Easter.{easter_sunday, easter_of, easter_day_of};
 
-use crate::{DateAnswer, DayAnswer, gregorian};
+use crate::gregorian;
 
 // Easter Sunday of each year from 2000 to 2199, as MMDD.
 const EASTER: [u16; 200] = [
@@ -58,21 +58,21 @@ pub(crate) fn easter_place(k: u64, l: u64) -> u64
     }
 }
 
-pub fn easter_sunday(y: u64) -> DateAnswer
+pub fn easter_sunday(y: u64) -> Option<u64>
     ensures { result ≡ easter_of y }
 {
     if (2000 <= y) & (y <= 2199) {
-        return DateAnswer::Date(y * 10000 + easter_in(y - 2000));
+        return Some(y * 10000 + easter_in(y - 2000));
     }
-    DateAnswer::NoDate
+    None
 }
 
 // The day number of Easter Sunday.
-pub fn easter_day(y: u64) -> DayAnswer
+pub fn easter_day(y: u64) -> Option<u64>
     ensures { result ≡ easter_day_of y }
 {
     match easter_sunday(y) {
-        DateAnswer::Date(x) => gregorian::day_number(x),
-        DateAnswer::NoDate => DayAnswer::NoDay,
+        Some(x) => gregorian::day_number(x),
+        None => None,
     }
 }

@@ -3,7 +3,6 @@ ghost use Rattle.std.specs.Prelude.{◌≡◌, true, cond, ◌+◌, ◌-◌, ◌
 ghost use Rattle.calendar.specs.Gregorian.{leap, leap_day, month_length, is_date, in_range, first_year, last_year};
 ghost use Rattle.calendar.specs.DayNumber.{days_before, year_start, calendar_days, day_number, day_of, year_at, month_at, date_in, date_at, date_of};
 
-use crate::{DateAnswer, DayAnswer};
 
 // The days before each month, in a year without a leap day.
 const COUNTS: [u64; 12] = [0, 31, 59, 90, 120, 151, 181, 212, 243, 273, 304, 334];
@@ -122,13 +121,13 @@ pub(crate) fn number(x: u64) -> u64
     year_start(y - 2000) + days_before(leap_day_in(y), m) + (d - 1)
 }
 
-pub fn day_number(x: u64) -> DayAnswer
+pub fn day_number(x: u64) -> Option<u64>
     ensures { result ≡ day_of x }
 {
     if is_date(x) {
-        return DayAnswer::Day(number(x));
+        return Some(number(x));
     }
-    DayAnswer::NoDay
+    None
 }
 
 // The day n, counted from 2101 on as if 2100 had a leap day: then every fourth year has one.
@@ -187,11 +186,11 @@ fn date_at(n: u64) -> u64
     date_in(2000 + p.year, p.day)
 }
 
-pub fn date_of(n: u64) -> DateAnswer
+pub fn date_of(n: u64) -> Option<u64>
     ensures { result ≡ date_of n }
 {
     if n < CALENDAR_DAYS {
-        return DateAnswer::Date(date_at(n));
+        return Some(date_at(n));
     }
-    DateAnswer::NoDate
+    None
 }

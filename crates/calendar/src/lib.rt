@@ -8,20 +8,6 @@ pub mod gregorian;
 pub mod periods;
 pub mod target;
 
-// A date of the calendar.
-#[derive(Clone, Copy)]
-pub enum DateAnswer {
-    Date(u64),
-    NoDate,
-}
-
-// The number of a day of the calendar: 0 is 1 January 2000.
-#[derive(Clone, Copy)]
-pub enum DayAnswer {
-    Day(u64),
-    NoDay,
-}
-
 // A count of calendar days. It is never added to a count of business days.
 #[derive(Clone, Copy)]
 pub struct CalendarDays(pub u64);
@@ -33,13 +19,6 @@ pub struct BusinessDays(pub u64);
 // A count of months.
 #[derive(Clone, Copy)]
 pub struct Months(pub u64);
-
-// The calendar days from one date to another.
-#[derive(Clone, Copy)]
-pub enum DaysAnswer {
-    Days(CalendarDays),
-    NoDays,
-}
 
 // Months, then calendar days, then business days: the form of every last day and of the lapse of a mandate.
 #[derive(Clone, Copy)]

@@ -4,10 +4,7 @@ ghost use Rattle.calendar.specs.DayNumber.{calendar_days, date_of};
 ghost use Rattle.calendar.specs.Target.{open_after};
 ghost use Rattle.calendar.specs.Periods.{days_after, days_between, business_days_after, day_of_month_count, months_after, period_end, is_after};
 
-use crate::{
-    BusinessDays, CalendarDays, DateAnswer, DayAnswer, DaysAnswer, Months, Period, gregorian,
-    target,
-};
+use crate::{BusinessDays, CalendarDays, Months, Period, gregorian, target};
 
 const CALENDAR_DAYS: u64 = 73049;
 
@@ -15,52 +12,52 @@ const CALENDAR_DAYS: u64 = 73049;
 const MONTHS: u64 = 26400;
 
 // The day n calendar days after the day d.
-fn plus(d: u64, n: u64) -> DateAnswer
+fn plus(d: u64, n: u64) -> Option<u64>
     requires { d < calendar_days }
     ensures { result ≡ date_of (d + n) }
 {
     if n < CALENDAR_DAYS - d {
         return gregorian::date_of(d + n);
     }
-    DateAnswer::NoDate
+    None
 }
 
 // The date n calendar days after a date.
-pub fn days_after(x: u64, n: CalendarDays) -> DateAnswer
+pub fn days_after(x: u64, n: CalendarDays) -> Option<u64>
     ensures { result ≡ days_after n x }
 {
     match gregorian::day_number(x) {
-        DayAnswer::Day(d) => plus(d, n.0),
-        DayAnswer::NoDay => DateAnswer::NoDate,
+        Some(d) => plus(d, n.0),
+        None => None,
     }
 }
 
 // The calendar days from the date x to the date y, which is not before it.
-pub fn days_between(x: u64, y: u64) -> DaysAnswer
+pub fn days_between(x: u64, y: u64) -> Option<CalendarDays>
     ensures { result ≡ days_between x y }
 {
-    let DayAnswer::Day(from) = gregorian::day_number(x) else {
-        return DaysAnswer::NoDays;
+    let Some(from) = gregorian::day_number(x) else {
+        return None;
     };
-    let DayAnswer::Day(to) = gregorian::day_number(y) else {
-        return DaysAnswer::NoDays;
+    let Some(to) = gregorian::day_number(y) else {
+        return None;
     };
     if from <= to {
-        return DaysAnswer::Days(CalendarDays(to - from));
+        return Some(CalendarDays(to - from));
     }
-    DaysAnswer::NoDays
+    None
 }
 
 // The n-th business day after the day d.
-fn open_after(d: u64, n: u64) -> DateAnswer
+fn open_after(d: u64, n: u64) -> Option<u64>
     requires { d < calendar_days }
     ensures { result ≡ date_of (open_after n d) }
 {
     let mut at = d;
     let mut i = 0;
     while i < n {
-        let DayAnswer::Day(next) = target::first_open(at + 1) else {
-            return DateAnswer::NoDate;
+        let Some(next) = target::first_open(at + 1) else {
+            return None;
         };
         at = next;
         i += 1;
@@ -69,12 +66,12 @@ fn open_after(d: u64, n: u64) -> DateAnswer
 }
 
 // The date of the n-th business day after a date.
-pub fn business_days_after(x: u64, n: BusinessDays) -> DateAnswer
+pub fn business_days_after(x: u64, n: BusinessDays) -> Option<u64>
     ensures { result ≡ business_days_after n x }
 {
     match gregorian::day_number(x) {
-        DayAnswer::Day(d) => open_after(d, n.0),
-        DayAnswer::NoDay => DateAnswer::NoDate,
+        Some(d) => open_after(d, n.0),
+        None => None,
     }
 }
 
@@ -91,40 +88,40 @@ fn day_of_month(t: u64, d: u64) -> u64
 }
 
 // The date n months after a date.
-pub fn months_after(x: u64, n: Months) -> DateAnswer
+pub fn months_after(x: u64, n: Months) -> Option<u64>
     ensures { result ≡ months_after n x }
 {
     let k = n.0;
     if gregorian::is_date(x) & (k < MONTHS) {
         let t = x / 10000 * 12 + (x / 100 % 100 - 1) + k;
         if t < MONTHS {
-            return DateAnswer::Date(day_of_month(t, x % 100));
+            return Some(day_of_month(t, x % 100));
         }
     }
-    DateAnswer::NoDate
+    None
 }
 
 // The end of a period that starts on the date x: months first, then calendar days, then business days.
-pub fn period_end(x: u64, p: Period) -> DateAnswer
+pub fn period_end(x: u64, p: Period) -> Option<u64>
     ensures { result ≡ period_end p x }
 {
-    let DateAnswer::Date(month) = months_after(x, p.months) else {
-        return DateAnswer::NoDate;
+    let Some(month) = months_after(x, p.months) else {
+        return None;
     };
     let day = gregorian::number(month);
     let days = p.days.0;
     if days < CALENDAR_DAYS - day {
         return open_after(day + days, p.business.0);
     }
-    DateAnswer::NoDate
+    None
 }
 
 // Whether the date x comes after one that was worked out.
-pub fn is_after(x: u64, limit: DateAnswer) -> bool
+pub fn is_after(x: u64, limit: Option<u64>) -> bool
     ensures { result ≡ is_after x limit }
 {
     match limit {
-        DateAnswer::Date(last) => last < x,
-        DateAnswer::NoDate => false,
+        Some(last) => last < x,
+        None => false,
     }
 }

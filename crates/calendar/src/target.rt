@@ -3,7 +3,7 @@ ghost use Rattle.std.specs.Prelude.{◌≡◌, ◌-◌, ◌<◌};
 ghost use Rattle.calendar.specs.DayNumber.{year_start, calendar_days, year_at, in_calendar};
 ghost use Rattle.calendar.specs.Target.{weekday, business_day, is_open, first_open, last_open_before, answer_date, first_business_day, last_business_day_before};
 
-use crate::{DateAnswer, DayAnswer, easter, gregorian};
+use crate::{easter, gregorian};
 
 const CALENDAR_DAYS: u64 = 73049;
 
@@ -29,8 +29,8 @@ pub fn is_business_day(x: u64) -> bool
     ensures { result ≡ business_day x }
 {
     match gregorian::day_number(x) {
-        DayAnswer::Day(n) => is_open(n),
-        DayAnswer::NoDay => false,
+        Some(n) => is_open(n),
+        None => false,
     }
 }
 
@@ -49,11 +49,11 @@ pub fn is_open(n: u64) -> bool
 }
 
 // The first business day on or after the day n.
-pub fn first_open(n: u64) -> DayAnswer
+pub fn first_open(n: u64) -> Option<u64>
     ensures { result ≡ in_calendar (first_open n) }
 {
     if CALENDAR_DAYS <= n {
-        return DayAnswer::NoDay;
+        return None;
     }
     let mut d = n;
     let first = loop {
@@ -62,51 +62,51 @@ pub fn first_open(n: u64) -> DayAnswer
         }
         d += 1;
     };
-    DayAnswer::Day(first)
+    Some(first)
 }
 
 // The last business day before the day n.
-fn last_open_before(n: u64) -> DayAnswer
+fn last_open_before(n: u64) -> Option<u64>
     ensures { result ≡ last_open_before n }
 {
     let mut d = n;
     loop {
         if d == 0 {
-            break DayAnswer::NoDay;
+            break None;
         }
         d -= 1;
         if is_open(d) {
-            break DayAnswer::Day(d);
+            break Some(d);
         }
     }
 }
 
 // The date of a day that was worked out.
-pub fn date_of_day(d: DayAnswer) -> DateAnswer
+pub fn date_of_day(d: Option<u64>) -> Option<u64>
     ensures { result ≡ answer_date d }
 {
     match d {
-        DayAnswer::Day(n) => gregorian::date_of(n),
-        DayAnswer::NoDay => DateAnswer::NoDate,
+        Some(n) => gregorian::date_of(n),
+        None => None,
     }
 }
 
 // The first business day on or after a date.
-pub fn first_business_day(x: u64) -> DateAnswer
+pub fn first_business_day(x: u64) -> Option<u64>
     ensures { result ≡ first_business_day x }
 {
     match gregorian::day_number(x) {
-        DayAnswer::Day(n) => date_of_day(first_open(n)),
-        DayAnswer::NoDay => DateAnswer::NoDate,
+        Some(n) => date_of_day(first_open(n)),
+        None => None,
     }
 }
 
 // The last business day before a date.
-pub fn last_business_day_before(x: u64) -> DateAnswer
+pub fn last_business_day_before(x: u64) -> Option<u64>
     ensures { result ≡ last_business_day_before x }
 {
     match gregorian::day_number(x) {
-        DayAnswer::Day(n) => date_of_day(last_open_before(n)),
-        DayAnswer::NoDay => DateAnswer::NoDate,
+        Some(n) => date_of_day(last_open_before(n)),
+        None => None,
     }
 }

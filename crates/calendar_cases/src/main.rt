@@ -4,9 +4,7 @@
 
 ghost use Rattle.std.specs.Prelude.{◌<◌};
 
-use calendar::{
-    BusinessDays, CalendarDays, DateAnswer, Months, Period, easter, gregorian, periods, target,
-};
+use calendar::{BusinessDays, CalendarDays, Months, Period, easter, gregorian, periods, target};
 use std::io;
 
 // Closing days and their neighbours, month ends, leap days and year ends; and numbers that are no dates.
@@ -34,10 +32,10 @@ fn end_line(rt: &impl Print) -> io::Result<()> {
 }
 
 // A date, or 0 where there is none.
-fn shown(d: DateAnswer) -> u64 {
+fn shown(d: Option<u64>) -> u64 {
     match d {
-        DateAnswer::Date(x) => x,
-        DateAnswer::NoDate => 0,
+        Some(x) => x,
+        None => 0,
     }
 }
 

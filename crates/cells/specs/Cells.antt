@@ -3,13 +3,12 @@
 --   call those of the partial line), 5 the bytes written, 6 the lines of the last text, or of its end, that were not taken;
 --   cents 0 the total compensation, 1 the figure of the last position query; event 0 to 8 the fields in their order.
 -- `ReadsBack` at the end holds what reads a cell to what writes it. Assumes nothing.
-use Rattle.std.specs.Prelude.{◌≡◌, Bool, ◌&&◌, List, [], ◌∷◌, ℕ, eqb, ℤ, pos, length, get_or, set}
+use Rattle.std.specs.Prelude.{◌≡◌, Bool, ◌&&◌, List, [], ◌∷◌, ℕ, eqb, ℤ, pos, length, get_or, set, Result, Ok, Err}
 use Rattle.events.specs.declared.Event.{Event}
 use Rattle.tables.specs.declared.Header.{Header}
 use Rattle.tables.specs.Ledger.{Ledger}
-use Rattle.model.specs.declared.QueryAnswer.{QueryAnswer}
-use Rattle.model.specs.declared.QueryAnswer.TheVariants.{Figure, Refused}
 use Rattle.cells.specs.declared.Counts.{Counts}
+use Rattle.refusals.specs.declared.Refusal.{Refusal}
 
 -- ---- how many cells there are
 
@@ -66,9 +65,9 @@ abbrev pub written_state : ℕ → List ℕ → List ℕ
 written_state n state = set state 5 n
 
 -- the figure of a query that was answered
-abbrev pub figure_cents : QueryAnswer → List ℤ → List ℤ
-figure_cents (Figure z) cents = set cents 1 z
-figure_cents (Refused r) cents = cents
+abbrev pub figure_cents : Result ℤ Refusal → List ℤ → List ℤ
+figure_cents (Ok z) cents = set cents 1 z
+figure_cents (Err r) cents = cents
 
 -- ---- all cells
 
@@ -114,5 +113,5 @@ pub record ReadsBack : Type 0 where
   pub lines : (h : Header) (c : Counts) → lines_in (state_cells h c) ≡ c.lines
   pub filled : (h : Header) (c : Counts) → filled_in (state_cells h c) ≡ c.partial
   pub written : (h : Header) (c : Counts) (n : ℕ) → written_state n (state_cells h c) ≡ state_cells h (with_written n c)
-  pub figure : (total old z : ℤ) → figure_cents (Figure z) (total ∷ old ∷ []) ≡ total ∷ z ∷ []
+  pub figure : (total old z : ℤ) → figure_cents (Ok z) (total ∷ old ∷ []) ≡ total ∷ z ∷ []
   pub event : (e : Event) → cells_event (field_cells e) ≡ e

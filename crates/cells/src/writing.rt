@@ -3,12 +3,8 @@ ghost use Rattle.std.specs.Prelude.{◌≡◌, set};
 ghost use Rattle.model.specs.Step.{query_number};
 ghost use Rattle.cells.specs.Cells.{header_state, header_cents, counts_state, written_state, figure_cents, fresh_state, fresh_cents};
 
-use crate::{
-    COLLECTIONS_USED, COMPENSATION, Counts, FIGURE, FILLED, LATEST, LINES, MANDATES_USED, PAST,
-    WRITTEN,
-};
-use model::QueryAnswer;
-use refusals::number_of;
+use crate::{COLLECTIONS_USED, COMPENSATION, Counts, FIGURE, FILLED, LATEST, LINES, MANDATES_USED, PAST, WRITTEN};
+use refusals::{Refusal, number_of};
 use tables::Header;
 
 // Writes a cell, if it is there.
@@ -80,15 +76,15 @@ pub fn put_fresh(state: &mut [u64], cents: &mut [i64])
 }
 
 // The number of the answer to a position query; its figure is written where there is one.
-pub fn put_query(answer: QueryAnswer, cents: &mut [i64]) -> u64
+pub fn put_query(answer: Result<i64, Refusal>, cents: &mut [i64]) -> u64
     ensures number { result ≡ query_number answer }
     ensures cents { cents.new ≡ figure_cents answer cents.old }
 {
     match answer {
-        QueryAnswer::Figure(figure) => {
+        Ok(figure) => {
             put_cents(cents, FIGURE, figure);
             0
         }
-        QueryAnswer::Refused(r) => number_of(r),
+        Err(r) => number_of(r),
     }
 }

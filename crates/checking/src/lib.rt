@@ -3,22 +3,20 @@
 #![tactic(auto)]
 
 ghost use Rattle.std.specs.Prelude.{◌≡◌, cond};
-ghost use Rattle.model.specs.declared.Answer.TheVariants.{Refused as Refuses};
 ghost use Rattle.checking.specs.Order.{none_fails, first_failing};
 ghost use Rattle.checking.specs.Calls.{is_found, used_row, found_row, dated_header};
 
 pub mod actions;
 
-use model::Answer;
 use refusals::Refusal;
 use tables::lookup::existing_of;
-use tables::{Found, Header};
+use tables::Header;
 
 // The header after an event, and the answer to it. The header stands first so that it lies where it is copied whole.
 #[derive(Clone, Copy)]
 pub struct Outcome {
     pub header: Header,
-    pub answer: Answer,
+    pub answer: Result<(), Refusal>,
 }
 
 // Whether each test is passed, in checking order.
@@ -59,20 +57,20 @@ pub fn none_fails() -> Tests
 }
 
 // What comes of one test: the rest where it is passed, else its refusal.
-fn checked(passed: bool, refusal: Refusal, rest: Answer) -> Answer
-    ensures { result ≡ cond passed rest (Refuses refusal) }
+fn checked(passed: bool, refusal: Refusal, rest: Result<(), Refusal>) -> Result<(), Refusal>
+    ensures { result ≡ cond passed rest (Err refusal) }
 {
     if passed {
         return rest;
     }
-    Answer::Refused(refusal)
+    Err(refusal)
 }
 
 // The answer of the first test that fails, or acceptance. From the last test, 17, to the first, 6.
-pub fn first_failing(t: Tests) -> Answer
+pub fn first_failing(t: Tests) -> Result<(), Refusal>
     ensures { result ≡ first_failing t }
 {
-    let r = checked(t.last, Refusal::AfterLastDay, Answer::Accepted);
+    let r = checked(t.last, Refusal::AfterLastDay, Ok(()));
     let r = checked(t.due, Refusal::BeforeDue, r);
     let r = checked(t.state, Refusal::WrongState, r);
     let r = checked(t.lapse, Refusal::Lapsed, r);
@@ -98,31 +96,31 @@ pub fn dated_header(header: Header, date: u64, mandates: usize, collections: usi
     }
 }
 
-pub fn is_found(found: Found) -> bool
+pub fn is_found(found: Option<usize>) -> bool
     ensures { result ≡ is_found found }
 {
     match found {
-        Found::At(_) => true,
-        Found::Nothing => false,
+        Some(_) => true,
+        None => false,
     }
 }
 
 // Whether a row was found that is one of the used rows that there are.
-pub fn is_used(found: Found, cells: &[u64], used: usize) -> bool
+pub fn is_used(found: Option<usize>, cells: &[u64], used: usize) -> bool
     ensures { result ≡ used_row cells.now used found }
 {
     match found {
-        Found::At(row) => row < existing_of(cells, used),
-        Found::Nothing => false,
+        Some(row) => row < existing_of(cells, used),
+        None => false,
     }
 }
 
 // The row that was found; the first where none was.
-pub fn found_row(found: Found) -> usize
+pub fn found_row(found: Option<usize>) -> usize
     ensures { result ≡ found_row found }
 {
     match found {
-        Found::At(row) => row,
-        Found::Nothing => 0,
+        Some(row) => row,
+        None => 0,
     }
 }

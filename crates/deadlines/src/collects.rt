@@ -7,7 +7,7 @@ ghost use Rattle.model.specs.Deadlines.{kept_due, timely, lapsed_for};
 use calendar::gregorian::day_number;
 use calendar::periods::{days_after, is_after, months_after};
 use calendar::target::{first_business_day, first_open, last_business_day_before};
-use calendar::{CalendarDays, DateAnswer, DayAnswer, Months};
+use calendar::{CalendarDays, Months};
 
 // The most calendar days from the event date to the requested date.
 const DAYS_AHEAD: u64 = 14;
@@ -23,8 +23,8 @@ pub fn kept_due(requested: u64) -> u64
     ensures { result ≡ kept_due requested }
 {
     match first_business_day(requested) {
-        DateAnswer::Date(x) => x,
-        DateAnswer::NoDate => 0,
+        Some(x) => x,
+        None => 0,
     }
 }
 
@@ -34,8 +34,8 @@ fn open_from(day: u64) -> u64
     ensures { result ≡ first_open day }
 {
     match first_open(day) {
-        DayAnswer::Day(n) => n,
-        DayAnswer::NoDay => 0,
+        Some(n) => n,
+        None => 0,
     }
 }
 
@@ -78,10 +78,10 @@ fn is_timely_by_days(day: u64, asked: u64) -> bool
 pub fn is_timely(date: u64, requested: u64) -> bool
     ensures { result ≡ timely date requested }
 {
-    let DayAnswer::Day(day) = day_number(date) else {
+    let Some(day) = day_number(date) else {
         return is_timely_by_dates(date, requested);
     };
-    let DayAnswer::Day(asked) = day_number(requested) else {
+    let Some(asked) = day_number(requested) else {
         return is_timely_by_dates(date, requested);
     };
     if asked < OPEN_WITHIN {

@@ -4,7 +4,7 @@ ghost use Rattle.model.specs.declared.Way.TheVariants.{ByRefund};
 ghost use Rattle.model.specs.Deadlines.{period as periodIn, core, period_of, last_day, in_time};
 
 use calendar::periods::{is_after, period_end};
-use calendar::{BusinessDays, CalendarDays, DateAnswer, Months, Period};
+use calendar::{BusinessDays, CalendarDays, Months, Period};
 use model::Way;
 
 fn period(months: u64, days: u64, business: u64) -> Period
@@ -39,7 +39,7 @@ fn period_of(way: Way) -> Period
 }
 
 // The last day, from the settled day.
-fn last_day(way: Way, settled: u64) -> DateAnswer
+fn last_day(way: Way, settled: u64) -> Option<u64>
     ensures { result ≡ last_day way settled }
 {
     period_end(settled, period_of(way))

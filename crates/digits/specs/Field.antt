@@ -1,8 +1,6 @@
 -- A number as text, in a field: its digits to the right edge, and blanks before them. Document 01, "The text line".
 -- Bytes are numbers. `signed_field` is what is written of a number, `read_field` what is read of bytes. Assumes nothing.
-use Rattle.std.specs.Prelude.{ℕ, zero, suc, ◌+◌, ◌-◌, ◌*◌, ◌/◌, ◌%◌, Bool, cond, ◌&&◌, List, [], ◌∷◌, ◌++◌, leb, ltb, eqb, ℤ, pos, negsuc, nat_abs, length, take, drop}
-use Rattle.digits.specs.declared.reading.FieldAnswer.{FieldAnswer}
-use Rattle.digits.specs.declared.reading.FieldAnswer.TheVariants.{Value, NoValue}
+use Rattle.std.specs.Prelude.{ℕ, zero, suc, ◌+◌, ◌-◌, ◌*◌, ◌/◌, ◌%◌, Bool, cond, ◌&&◌, List, [], ◌∷◌, ◌++◌, leb, ltb, eqb, ℤ, pos, negsuc, nat_abs, length, take, drop, Option, Some, None}
 
 abbrev pub blank : ℕ
 blank = 32
@@ -52,18 +50,18 @@ abbrev pub is_digit : ℕ → Bool
 is_digit b = leb zero_digit b && leb b (zero_digit + 9)
 
 -- digits to the right edge, after those that came to v
-unfoldable pub read_digits : ℕ → List ℕ → FieldAnswer
-read_digits v [] = Value v
-read_digits v (b ∷ bs) = cond (is_digit b) (read_digits (v * 10 + (b - zero_digit)) bs) NoValue
+unfoldable pub read_digits : ℕ → List ℕ → Option ℕ
+read_digits v [] = Some v
+read_digits v (b ∷ bs) = cond (is_digit b) (read_digits (v * 10 + (b - zero_digit)) bs) None
 
 -- at least one digit; a zero leads only where it stands alone
-unfoldable pub read_number : List ℕ → FieldAnswer
-read_number [] = NoValue
-read_number (b ∷ bs) = cond (eqb b zero_digit && ltb 0 (length bs)) NoValue (read_digits 0 (b ∷ bs))
+unfoldable pub read_number : List ℕ → Option ℕ
+read_number [] = None
+read_number (b ∷ bs) = cond (eqb b zero_digit && ltb 0 (length bs)) None (read_digits 0 (b ∷ bs))
 
 -- blanks, then a number
-unfoldable pub read_field : List ℕ → FieldAnswer
-read_field [] = NoValue
+unfoldable pub read_field : List ℕ → Option ℕ
+read_field [] = None
 read_field (b ∷ bs) = cond (eqb b blank) (read_field bs) (read_number (b ∷ bs))
 
 -- ---- a field at a place
@@ -73,11 +71,11 @@ abbrev pub has_room : ℕ → ℕ → ℕ → Bool
 has_room at n long = leb (at + n) long
 
 -- a field of at most twelve columns is read where it lies in the line
-unfoldable pub field_at : ℕ → ℕ → List ℕ → FieldAnswer
+unfoldable pub field_at : ℕ → ℕ → List ℕ → Option ℕ
 field_at at w l =
     cond (leb w 12 && has_room at w (length l))
     (read_field (take w (drop at l)))
-    NoValue
+    None
 
 -- a buffer after the bytes s were written to it from a place on
 abbrev pub pasted : ℕ → List ℕ → List ℕ → List ℕ

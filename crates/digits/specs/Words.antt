@@ -1,8 +1,6 @@
 -- Vocabulary of the private contracts of src/reading.rt, which read eight columns at a time. No promise and no public contract cites
 -- it: what a field says stands in specs/Field alone. Assumes nothing.
-use Rattle.std.specs.Prelude.{ℕ, zero, suc, ◌+◌, ◌-◌, ◌*◌, ◌/◌, ◌%◌, Bool, true, cond, ◌&&◌, List, [], ◌∷◌, leb, ltb, eqb}
-use Rattle.digits.specs.declared.reading.FieldAnswer.{FieldAnswer}
-use Rattle.digits.specs.declared.reading.FieldAnswer.TheVariants.{Value, NoValue}
+use Rattle.std.specs.Prelude.{ℕ, zero, suc, ◌+◌, ◌-◌, ◌*◌, ◌/◌, ◌%◌, Bool, true, cond, ◌&&◌, List, [], ◌∷◌, leb, ltb, eqb, Option, Some, None}
 use Rattle.digits.specs.Field.{zero_digit, is_digit, read_digits, read_field}
 
 -- the n bytes of a word, the lowest first
@@ -15,9 +13,9 @@ abbrev pub none : ℕ
 none = 1000000000000
 
 -- the number of a field, or `none`
-abbrev pub number_in : FieldAnswer → ℕ
-number_in (Value v) = v
-number_in NoValue = none
+abbrev pub number_in : Option ℕ → ℕ
+number_in (Some v) = v
+number_in None = none
 
 unfoldable pub are_digits : List ℕ → Bool
 are_digits [] = true
@@ -33,5 +31,5 @@ abbrev pub led_by : ℕ → List ℕ → ℕ
 led_by least bs = cond (are_digits bs && leb least (digits_from 0 bs)) (digits_from 0 bs) none
 
 -- what is read of columns up to the right edge, after columns that came to v: to 0 where they are blanks, else to a number or `none`
-unfoldable pub onward : ℕ → List ℕ → FieldAnswer
-onward v bs = cond (eqb v 0) (read_field bs) (cond (ltb v none) (read_digits v bs) NoValue)
+unfoldable pub onward : ℕ → List ℕ → Option ℕ
+onward v bs = cond (eqb v 0) (read_field bs) (cond (ltb v none) (read_digits v bs) None)

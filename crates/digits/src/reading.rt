@@ -1,18 +1,9 @@
 // Reading the number of a field: specs/Field, and specs/Words for eight columns at a time.
 ghost use Rattle.std.specs.Prelude.{◌≡◌, true, cond, List, [], ◌∷◌, ◌++◌, ℕ, ◌+◌, ◌*◌, ◌^◌, ◌≤◌, ◌<◌, ltb, length, take, drop};
-ghost use Rattle.digits.specs.declared.reading.FieldAnswer.TheVariants.{Value, NoValue};
 ghost use Rattle.digits.specs.Field.{is_digit, read_field, field_at};
 ghost use Rattle.digits.specs.Words.{bytes_of, none, number_in, are_digits, digits_from, led_by, onward};
 
 use crate::{BLANK, has_room};
-
-// What stands in a field. NoValue is first: the compiler takes the first variant for the rarer one, and inlines what comes after the
-// other.
-#[derive(Clone, Copy)]
-pub enum FieldAnswer {
-    NoValue,
-    Value(u64),
-}
 
 // The columns of the widest field that is read.
 const WIDEST: usize = 12;
@@ -207,21 +198,21 @@ fn number(line: &[u8], at: usize, width: usize) -> u64
 }
 
 // A number, or NONE, as an answer.
-fn answer(v: u64) -> FieldAnswer
-    ensures { result ≡ cond (ltb v none) (Value v) NoValue }
+fn answer(v: u64) -> Option<u64>
+    ensures { result ≡ cond (ltb v none) (Some v) None }
 {
     if v < NONE {
-        return FieldAnswer::Value(v);
+        return Some(v);
     }
-    FieldAnswer::NoValue
+    None
 }
 
 // The field of a width at a place of a line: no value where it is too wide or does not lie in the line.
-pub fn field(line: &[u8], at: usize, width: usize) -> FieldAnswer
+pub fn field(line: &[u8], at: usize, width: usize) -> Option<u64>
     ensures { result ≡ field_at at width line.now }
 {
     if (0 < width) & (width <= WIDEST) & has_room(line.len(), at, width) {
         return answer(number(line, at, width));
     }
-    FieldAnswer::NoValue
+    None
 }

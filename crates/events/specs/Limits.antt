@@ -1,10 +1,11 @@
 -- The limits of an event's fields. Document 01, "Records", "Ten events" and refusals 3, 4 and 5.
 -- `table` is the whole of it: a row for each kind and its codes, with the range of every field. Assumes nothing.
-use Rattle.std.specs.Prelude.{ℕ, Bool, false, cond, ◌&&◌, List, [], ◌∷◌, leb, eqb}
+use Rattle.std.specs.Prelude.{ℕ, Bool, false, cond, ◌&&◌, List, [], ◌∷◌, leb, eqb, Option, Some, None, Result, Ok, Err}
 use Rattle.common.specs.Limits.{creditor_count, debtor_count, bank_count, number_limit, amount_limit, rate_limit}
 use Rattle.common.specs.Tests.{all_of}
 use Rattle.common.specs.Checks.{Check, check, judged}
 use Rattle.calendar.specs.Gregorian.{in_range}
+use Rattle.refusals.specs.declared.Refusal.{Refusal}
 use Rattle.refusals.specs.Refusals.{number_of}
 use Rattle.refusals.specs.declared.Refusal.TheVariants.{UnknownKind, BadDate, BadField}
 use Rattle.events.specs.declared.Event.{Event}
@@ -12,10 +13,6 @@ use Rattle.events.specs.declared.limits.Range.{Range}
 use Rattle.events.specs.declared.limits.SecondDate.{SecondDate}
 use Rattle.events.specs.declared.limits.SecondDate.TheVariants.{NoSecond, Dated, NotAfter}
 use Rattle.events.specs.declared.limits.Row.{Row}
-use Rattle.events.specs.declared.limits.RowAnswer.{RowAnswer}
-use Rattle.events.specs.declared.limits.RowAnswer.TheVariants.{Found, NoRow}
-use Rattle.events.specs.declared.limits.Checked.{Checked}
-use Rattle.events.specs.declared.limits.Checked.TheVariants.{Within, Refused}
 
 -- ---- ranges, both ends included
 
@@ -108,11 +105,11 @@ abbrev pub no_row : Row
 no_row = row 0 unnamed unnamed unnamed unnamed unnamed unnamed NoSecond
 
 -- the first of the rows that is of a kind and a code
-abbrev pub row_in : List Row → ℕ → ℕ → RowAnswer
-row_in [] kind code = NoRow
-row_in (r ∷ rs) kind code = cond (eqb r.kind kind && within r.codes code) (Found r) (row_in rs kind code)
+abbrev pub row_in : List Row → ℕ → ℕ → Option Row
+row_in [] kind code = None
+row_in (r ∷ rs) kind code = cond (eqb r.kind kind && within r.codes code) (Some r) (row_in rs kind code)
 
-unfoldable pub row_of : ℕ → ℕ → RowAnswer
+unfoldable pub row_of : ℕ → ℕ → Option Row
 row_of kind code = row_in table kind code
 
 -- ---- refusals 3, 4 and 5
@@ -135,29 +132,29 @@ row_fits r e =
     ∷ [])
 
 -- a code that the kind does not have has no row
-abbrev pub row_answer_fits : RowAnswer → Event → Bool
-row_answer_fits NoRow e = false
-row_answer_fits (Found r) e = row_fits r e
+abbrev pub row_answer_fits : Option Row → Event → Bool
+row_answer_fits None e = false
+row_answer_fits (Some r) e = row_fits r e
 
 unfoldable pub fields_fit : Event → Bool
 fields_fit e = row_answer_fits (row_of e.kind e.code) e
 
 -- in checking order
-abbrev pub limit_checks : Event → List (Check Checked)
+abbrev pub limit_checks : Event → List (Check (Result Unit Refusal))
 limit_checks e =
-    check (within kinds e.kind) (Refused UnknownKind)  -- 3
-    ∷ check (in_range e.date) (Refused BadDate)  -- 4
-    ∷ check (fields_fit e) (Refused BadField)  -- 5
+    check (within kinds e.kind) (Err UnknownKind)  -- 3
+    ∷ check (in_range e.date) (Err BadDate)  -- 4
+    ∷ check (fields_fit e) (Err BadField)  -- 5
     ∷ []
 
-unfoldable pub checked : Event → Checked
-checked e = judged (limit_checks e) Within
+unfoldable pub checked : Event → Result Unit Refusal
+checked e = judged (limit_checks e) (Ok tt)
 
 -- ---- the number of an answer: 0, or the refusal's
 
-abbrev pub checked_number : Checked → ℕ
-checked_number Within = 0
-checked_number (Refused r) = number_of r
+abbrev pub checked_number : Result Unit Refusal → ℕ
+checked_number (Ok tt) = 0
+checked_number (Err r) = number_of r
 
 -- the checking order in the paper's numbers: that of the first test that fails, or 0
 abbrev pub limit_numbers : Event → List (Check ℕ)

@@ -38,19 +38,6 @@ pub struct Row {
     pub second: SecondDate,
 }
 
-#[derive(Clone, Copy)]
-pub enum RowAnswer {
-    Found(Row),
-    NoRow,
-}
-
-// Whether an event is within its limits.
-#[derive(Clone, Copy)]
-pub enum Checked {
-    Within,
-    Refused(Refusal),
-}
-
 pub const LAST_KIND: u64 = 10;
 
 const KINDS: Range = Range {
@@ -243,15 +230,15 @@ fn place_of(kind: u64, code: u64) -> usize
 }
 
 // The limits of the events of a kind with a code.
-pub fn row_of(kind: u64, code: u64) -> RowAnswer
+pub fn row_of(kind: u64, code: u64) -> Option<Row>
     ensures { result ≡ row_of kind code }
 {
     let row = row_at(place_of(kind, code));
     let codes = row.codes;
     if (row.kind == kind) & within(codes, code) {
-        return RowAnswer::Found(row);
+        return Some(row);
     }
-    RowAnswer::NoRow
+    None
 }
 
 // Whether s is a second date for an event of the date d.
@@ -286,25 +273,25 @@ fn row_fits(r: Row, e: Event) -> bool
 fn fields_fit(e: Event) -> bool
     ensures { result ≡ fields_fit e }
 {
-    let RowAnswer::Found(row) = row_of(e.kind, e.code) else {
+    let Some(row) = row_of(e.kind, e.code) else {
         return false;
     };
     row_fits(row, e)
 }
 
 // Refusals 3, 4 and 5, in this order.
-pub fn check(e: Event) -> Checked
+pub fn check(e: Event) -> Result<(), Refusal>
     ensures answer { result ≡ checked e }
     ensures number { checked_number result ≡ limit_number e }
 {
     if !within(KINDS, e.kind) {
-        return Checked::Refused(Refusal::UnknownKind);
+        return Err(Refusal::UnknownKind);
     }
     if !calendar::gregorian::in_range(e.date) {
-        return Checked::Refused(Refusal::BadDate);
+        return Err(Refusal::BadDate);
     }
     if !fields_fit(e) {
-        return Checked::Refused(Refusal::BadField);
+        return Err(Refusal::BadField);
     }
-    Checked::Within
+    Ok(())
 }

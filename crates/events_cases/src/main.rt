@@ -2,35 +2,34 @@
 // tests/events_oracle.py. A case writes the number of its answer, 0 where it is taken, and then what was written back.
 #![tactic(auto)]
 
-use events::limits::Checked;
 use events::{Event, limits};
 use lines::line;
-use lines::line::{LineAnswer, WriteAnswer};
 use std::io;
+use refusals::Refusal;
 
 fn put(rt: &impl Print, n: u64) -> io::Result<()> {
     println!(rt; "{n}")
 }
 
-fn written(a: WriteAnswer) -> u64 {
+fn written(a: Result<(), Refusal>) -> u64 {
     match a {
-        WriteAnswer::Written => 0,
-        WriteAnswer::Refused(r) => refusals::number_of(r),
+        Ok(()) => 0,
+        Err(r) => refusals::number_of(r),
     }
 }
 
-fn checked(a: Checked) -> u64 {
+fn checked(a: Result<(), Refusal>) -> u64 {
     match a {
-        Checked::Within => 0,
-        Checked::Refused(r) => refusals::number_of(r),
+        Ok(()) => 0,
+        Err(r) => refusals::number_of(r),
     }
 }
 
 // A line's answer; of a line that is taken also the answer of writing its event, and the whole buffer after it.
 fn read_back(rt: &impl Print, bytes: &[u8]) -> io::Result<()> {
     match line::read(bytes) {
-        LineAnswer::Refused(r) => put(rt, refusals::number_of(r)),
-        LineAnswer::Taken(e) => write_back(rt, e),
+        Err(r) => put(rt, refusals::number_of(r)),
+        Ok(e) => write_back(rt, e),
     }
 }
 

@@ -7,10 +7,7 @@ ghost use Rattle.tables.specs.Ledger.{ledger};
 ghost use Rattle.fitness.specs.Fitness.{none_or_date, position_fit, compensation_fit, is_zero, row_count_fit, sizes_of, header_of, row_fit, rows_fit, named_tests, mandate_fit, day_fit, collection_fit, creditor_fit, creditors_fit, positions_fit, fit};
 
 use calendar::gregorian::in_range;
-use common::{
-    AMOUNT_LIMIT, BANKS, COLLECTION_ROWS, CREDITORS, DEBTORS, MANDATE_ROWS, NUMBER_LIMIT,
-    POSITION_LIMIT,
-};
+use common::{AMOUNT_LIMIT, BANKS, COLLECTION_ROWS, CREDITORS, DEBTORS, MANDATE_ROWS, NUMBER_LIMIT, POSITION_LIMIT};
 use tables::creditors::is_added;
 use tables::rows::STRIDE;
 use tables::{Header, collection_column, mandate_column};

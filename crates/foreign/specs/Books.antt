@@ -1,12 +1,11 @@
 -- The calls that change the book over lent cells, against the model. Of each, l is the ledger that the cells and the tables hold before
 -- it, and l' the one after. Assumes nothing.
-use Rattle.std.specs.Prelude.{◌≡◌, Bool, true, cond, ◌&&◌, List, [], ◌∷◌, ℕ, ℤ, pos}
+use Rattle.std.specs.Prelude.{◌≡◌, Bool, true, cond, ◌&&◌, List, [], ◌∷◌, ℕ, ℤ, pos, Result, Ok, Err}
+use Rattle.refusals.specs.declared.Refusal.{Refusal}
 use Rattle.refusals.specs.declared.Refusal.TheVariants.{UnfitMemory}
 use Rattle.refusals.specs.Refusals.{number_of}
 use Rattle.tables.specs.Ledger.{Ledger}
 use Rattle.fitness.specs.Fitness.{sizes_fit}
-use Rattle.opening.specs.declared.OpenAnswer.{OpenAnswer}
-use Rattle.opening.specs.declared.OpenAnswer.TheVariants.{Opened, Refused}
 use Rattle.opening.specs.declared.OpenOutcome.{OpenOutcome}
 use Rattle.opening.specs.Opening.{open_number, fresh, opened}
 use Rattle.model.specs.Step.{answer_number, event_number, after, run}
@@ -17,15 +16,15 @@ use Rattle.cells.specs.Cells.{cells_fit, event_cells_fit, cells_event, header_st
 
 -- ---- for private contracts: what is written of an answer
 
-abbrev pub open_state : OpenAnswer → List ℕ → List ℕ
-open_state Opened state = fresh_state state
-open_state (Refused r) state = state
+abbrev pub open_state : Result Unit Refusal → List ℕ → List ℕ
+open_state (Ok tt) state = fresh_state state
+open_state (Err r) state = state
 
-abbrev pub open_cents : OpenAnswer → List ℤ → List ℤ
-open_cents Opened cents = fresh_cents cents
-open_cents (Refused r) cents = cents
+abbrev pub open_cents : Result Unit Refusal → List ℤ → List ℤ
+open_cents (Ok tt) cents = fresh_cents cents
+open_cents (Err r) cents = cents
 
-pub record OpeningPut (a : OpenAnswer) (state : List ℕ) (cents : List ℤ) (r : ℕ) (state' : List ℕ) (cents' : List ℤ) : Type 0 where
+pub record OpeningPut (a : Result Unit Refusal) (state : List ℕ) (cents : List ℤ) (r : ℕ) (state' : List ℕ) (cents' : List ℤ) : Type 0 where
   pub answer_is : r ≡ open_number a
   pub state_is : state' ≡ open_state a state
   pub cents_is : cents' ≡ open_cents a cents

@@ -10,21 +10,21 @@ use book::event::take_event;
 use cells::reading::{cells_fit, event_cells_fit, event_in, header_in};
 use cells::writing::{put_fresh, put_header};
 use checking::Outcome;
-use opening::{OpenAnswer, OpenOutcome, open_ledger};
-use refusals::number_of;
+use opening::{OpenOutcome, open_ledger};
+use refusals::{Refusal, number_of};
 use replay::replay::replay;
 use text::text::answer_number;
 
 // The number of an opening's answer; all cells are 0 where it is accepted.
-fn put_opening(answer: OpenAnswer, state: &mut [u64], cents: &mut [i64]) -> u64
+fn put_opening(answer: Result<(), Refusal>, state: &mut [u64], cents: &mut [i64]) -> u64
     ensures { OpeningPut answer state.old cents.old result state.new cents.new }
 {
     match answer {
-        OpenAnswer::Opened => {
+        Ok(()) => {
             put_fresh(state, cents);
             0
         }
-        OpenAnswer::Refused(r) => number_of(r),
+        Err(r) => number_of(r),
     }
 }
 
@@ -100,12 +100,12 @@ pub fn kalanhav_take_event(
 }
 
 // The number of an opening's answer.
-fn open_number(answer: OpenAnswer) -> u64
+fn open_number(answer: Result<(), Refusal>) -> u64
     ensures { result ≡ open_number answer }
 {
     match answer {
-        OpenAnswer::Opened => 0,
-        OpenAnswer::Refused(r) => number_of(r),
+        Ok(()) => 0,
+        Err(r) => number_of(r),
     }
 }
 

@@ -12,7 +12,6 @@ use cells::writing::{put_counts, put_header, put_written};
 use listing::ending::{Ending, end_text};
 use listing::listing::{Listing, list_positions};
 use listing::past::{goes_past, lines_past};
-use model::Answer;
 use refusals::number_of;
 use text::text::{Piece, take_text};
 
@@ -48,11 +47,11 @@ fn put_piece(piece: Piece, past: u64, state: &mut [u64], cents: &mut [i64]) -> u
 {
     let answer = piece.answer;
     match answer {
-        Answer::Accepted => {
+        Ok(()) => {
             put_taken(piece, past, state, cents);
             0
         }
-        Answer::Refused(r) => number_of(r),
+        Err(r) => number_of(r),
     }
 }
 
@@ -109,7 +108,7 @@ fn put_ending(ending: Ending, past: u64, state: &mut [u64]) -> u64
 {
     let answer = ending.answer;
     match answer {
-        Answer::Accepted => {
+        Ok(()) => {
             let counts = Counts {
                 lines: ending.lines,
                 partial: 0,
@@ -119,7 +118,7 @@ fn put_ending(ending: Ending, past: u64, state: &mut [u64]) -> u64
             put_counts(counts, state);
             0
         }
-        Answer::Refused(r) => number_of(r),
+        Err(r) => number_of(r),
     }
 }
 
@@ -144,11 +143,11 @@ fn put_listing(listing: Listing, state: &mut [u64]) -> u64
 {
     let answer = listing.answer;
     match answer {
-        Answer::Accepted => {
+        Ok(()) => {
             put_written(listing.bytes, state);
             0
         }
-        Answer::Refused(r) => number_of(r),
+        Err(r) => number_of(r),
     }
 }
 

@@ -2,11 +2,9 @@
 -- each slot, for each row the next one of its slot, and the rows that it covers. It stays true while rows are added and
 -- none changes its number: rows that it does not cover are walked.
 -- What it is for: `IndexHolds`, proved in proofs/Laws/Following. Assumes nothing.
-use Rattle.std.specs.Prelude.{◌≡◌, Bool, cond, List, [], ◌∷◌, ℕ, zero, suc, ◌+◌, ◌-◌, ◌%◌, ◌≤◌, ◌<◌, min, eqb, ltb, get_or}
+use Rattle.std.specs.Prelude.{◌≡◌, Bool, cond, List, [], ◌∷◌, ℕ, zero, suc, ◌+◌, ◌-◌, ◌%◌, ◌≤◌, ◌<◌, min, eqb, ltb, get_or, Option, Some, None}
 use Rattle.common.specs.Limits.{collection_row_limit}
 use Rattle.common.specs.Walk.{first_from}
-use Rattle.tables.specs.declared.Found.{Found}
-use Rattle.tables.specs.declared.Found.TheVariants.{At, Nothing}
 use Rattle.tables.specs.Lookup.{number_at, number_is, existing, MayStart}
 
 -- ---- what stands in an index
@@ -30,13 +28,13 @@ abbrev pub in_slot : List ℕ → ℕ → ℕ → Bool
 in_slot cells slot row = eqb (slot_of (number_at cells row)) slot
 
 -- a row as a cell has it: 0 for none
-abbrev pub marked : Found → ℕ
-marked (At row) = row + 1
-marked Nothing = 0
+abbrev pub marked : Option ℕ → ℕ
+marked (Some row) = row + 1
+marked None = 0
 
 -- of the first n rows the first of a slot, from a row on
 unfoldable pub row_from : List ℕ → ℕ → ℕ → ℕ → ℕ
-row_from cells n slot row = marked (first_from (in_slot cells slot) At Nothing row (n - row))
+row_from cells n slot row = marked (first_from (in_slot cells slot) Some None row (n - row))
 
 -- behind the slots: for each row the next one of its slot, and last the rows that are covered
 unfoldable pub behind_slots : List ℕ → ℕ → ℕ → ℕ

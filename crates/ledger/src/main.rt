@@ -13,7 +13,7 @@ ghost use Rattle.ledger.specs.Program.{Begins, LastRoom, Finished, Shown};
 use listing::ending::end_text;
 use listing::listing::list_positions;
 use listing::past::{goes_past, lines_past};
-use opening::{OpenAnswer, open_ledger};
+use opening::open_ledger;
 use streams::{Got, read_behind, write_whole};
 use tables::Header;
 use tables::rows::STRIDE;
@@ -328,7 +328,7 @@ fn main(rt: HostRuntime) {
         &mut bank_positions,
     );
     let answer = opened.answer;
-    let OpenAnswer::Opened = answer else {
+    let Ok(()) = answer else {
         return;
     };
     run(

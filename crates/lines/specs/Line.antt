@@ -1,19 +1,12 @@
 -- The text line. Document 01, "The text line", and refusals 1 and 2.
 -- Bytes are numbers; `field_bytes` and `read_field` of one field are those of crates/digits. `line_of` is the line of an event, `read_line`
 -- what a list of bytes says. Assumes nothing.
-use Rattle.std.specs.Prelude.{ℕ, ◌+◌, Bool, cond, ◌&&◌, List, [], ◌∷◌, ◌++◌, leb, eqb, length, take, drop, get_or}
+use Rattle.std.specs.Prelude.{ℕ, ◌+◌, Bool, cond, ◌&&◌, List, [], ◌∷◌, ◌++◌, leb, eqb, length, take, drop, get_or, Option, Some, None, Result, Ok, Err}
 use Rattle.common.specs.Checks.{check, judged}
+use Rattle.refusals.specs.declared.Refusal.{Refusal}
 use Rattle.refusals.specs.Refusals.{number_of}
 use Rattle.refusals.specs.declared.Refusal.TheVariants.{BadLine, UnfitMemory}
 use Rattle.events.specs.declared.Event.{Event}
-use Rattle.events.specs.declared.limits.Checked.{Checked}
-use Rattle.events.specs.declared.limits.Checked.TheVariants.{Within, Refused}
-use Rattle.digits.specs.declared.reading.FieldAnswer.{FieldAnswer}
-use Rattle.digits.specs.declared.reading.FieldAnswer.TheVariants.{Value, NoValue}
-use Rattle.lines.specs.declared.line.LineAnswer.{LineAnswer}
-use Rattle.lines.specs.declared.line.LineAnswer.TheVariants as lines
-use Rattle.lines.specs.declared.line.WriteAnswer.{WriteAnswer}
-use Rattle.lines.specs.declared.line.WriteAnswer.TheVariants as writes
 use Rattle.digits.specs.Field.{field_bytes, read_field}
 use Rattle.events.specs.Limits.{limit_checks, checked, limit_numbers, limit_number}
 
@@ -78,10 +71,10 @@ pub data Fields : Type 0 where
   Values : List ℕ → Fields
   Unreadable : Fields
 
-abbrev pub joined : FieldAnswer → Fields → Fields
-joined NoValue vs = Unreadable
-joined (Value v) Unreadable = Unreadable
-joined (Value v) (Values vs) = Values (v ∷ vs)
+abbrev pub joined : Option ℕ → Fields → Fields
+joined None vs = Unreadable
+joined (Some v) Unreadable = Unreadable
+joined (Some v) (Values vs) = Values (v ∷ vs)
 
 -- the fields that stand in l one after the other from a place on, by their widths
 abbrev pub read_fields : List ℕ → ℕ → List ℕ → Fields
@@ -89,49 +82,49 @@ read_fields [] at l = Values []
 read_fields (w ∷ ws) at l = joined (read_field (take w (drop at l))) (read_fields ws (at + w) l)
 
 -- an event that was read is within its limits, or is refused by 3, 4 or 5
-abbrev pub answer_of : Event → Checked → LineAnswer
-answer_of e Within = lines.Taken e
-answer_of e (Refused r) = lines.Refused r
+abbrev pub answer_of : Event → Result Unit Refusal → Result Event Refusal
+answer_of e (Ok tt) = Ok e
+answer_of e (Err r) = Err r
 
-abbrev pub taken : Fields → LineAnswer
-taken Unreadable = lines.Refused BadLine
+abbrev pub taken : Fields → Result Event Refusal
+taken Unreadable = Err BadLine
 taken (Values vs) = answer_of (event_of vs) (checked (event_of vs))
 
 -- 74 columns and byte 10
 abbrev pub is_line : List ℕ → Bool
 is_line l = eqb (length l) line_length && eqb (get_or l columns 0) line_end
 
-unfoldable pub read_line : List ℕ → LineAnswer
+unfoldable pub read_line : List ℕ → Result Event Refusal
 read_line l =
     cond (is_line l)
     (taken (read_fields widths 0 l))
-    (lines.Refused BadLine)
+    (Err BadLine)
 
 -- ---- reading into lent cells, one for each field
 
 -- the answer without its event
-abbrev pub checked_line : LineAnswer → Checked
-checked_line (lines.Taken e) = Within
-checked_line (lines.Refused r) = Refused r
+abbrev pub checked_line : Result Event Refusal → Result Unit Refusal
+checked_line (Ok e) = (Ok tt)
+checked_line (Err r) = Err r
 
 -- the fields of the event, or the cells as they were
-abbrev pub cells_by : LineAnswer → List ℕ → List ℕ
-cells_by (lines.Taken e) cells = fields_of e
-cells_by (lines.Refused r) cells = cells
+abbrev pub cells_by : Result Event Refusal → List ℕ → List ℕ
+cells_by (Ok e) cells = fields_of e
+cells_by (Err r) cells = cells
 
 -- ---- writing to a lent buffer
 
-abbrev pub written_of : Checked → WriteAnswer
-written_of Within = writes.Written
-written_of (Refused r) = writes.Refused r
+abbrev pub written_of : Result Unit Refusal → Result Unit Refusal
+written_of (Ok tt) = (Ok tt)
+written_of (Err r) = Err r
 
 -- 2, then 3, 4 and 5
-unfoldable pub write_answer : Event → List ℕ → WriteAnswer
-write_answer e out = written_of (judged (check (leb line_length (length out)) (Refused UnfitMemory) ∷ limit_checks e) Within)
+unfoldable pub write_answer : Event → List ℕ → Result Unit Refusal
+write_answer e out = written_of (judged (check (leb line_length (length out)) (Err UnfitMemory) ∷ limit_checks e) (Ok tt))
 
-abbrev pub bytes_by : WriteAnswer → Event → List ℕ → List ℕ
-bytes_by writes.Written e out = line_of e ++ drop line_length out
-bytes_by (writes.Refused r) e out = out
+abbrev pub bytes_by : Result Unit Refusal → Event → List ℕ → List ℕ
+bytes_by (Ok tt) e out = line_of e ++ drop line_length out
+bytes_by (Err r) e out = out
 
 -- the buffer after the call: the line and then its own bytes, or as it was
 unfoldable pub bytes_after : Event → List ℕ → List ℕ
@@ -139,13 +132,13 @@ bytes_after e out = bytes_by (write_answer e out) e out
 
 -- ---- the number of an answer: 0, or the refusal's
 
-abbrev pub line_number : LineAnswer → ℕ
-line_number (lines.Taken e) = 0
-line_number (lines.Refused r) = number_of r
+abbrev pub line_number : Result Event Refusal → ℕ
+line_number (Ok e) = 0
+line_number (Err r) = number_of r
 
-abbrev pub write_number : WriteAnswer → ℕ
-write_number writes.Written = 0
-write_number (writes.Refused r) = number_of r
+abbrev pub write_number : Result Unit Refusal → ℕ
+write_number (Ok tt) = 0
+write_number (Err r) = number_of r
 
 -- ---- the same in the paper's numbers
 

@@ -1,30 +1,15 @@
 // The text line of an event: specs/Line.
 ghost use Rattle.std.specs.Prelude.{◌≡◌, ◌++◌, ◌≤◌, length, drop};
-ghost use Rattle.digits.specs.declared.reading.FieldAnswer.TheVariants.{Value};
 ghost use Rattle.digits.specs.Field.{field_at};
 ghost use Rattle.events.specs.Limits.{checked_number};
 ghost use Rattle.lines.specs.Line.{event_of, line_length, widths, read_fields, taken, read_line, checked_line, cells_by, line_of, write_answer, bytes_after, line_number, write_number, reader_number, writer_number};
 
 use digits::BLANK;
-use digits::reading::{FieldAnswer, field};
+use digits::reading::field;
 use digits::writing::put;
 use events::Event;
-use events::limits::{Checked, check};
+use events::limits::check;
 use refusals::Refusal;
-
-// What a line says.
-#[derive(Clone, Copy)]
-pub enum LineAnswer {
-    Taken(Event),
-    Refused(Refusal),
-}
-
-// Whether a line was written.
-#[derive(Clone, Copy)]
-pub enum WriteAnswer {
-    Written,
-    Refused(Refusal),
-}
 
 // The columns of the nine fields, and the line with the byte that ends it.
 pub const COLUMNS: usize = 74;
@@ -47,26 +32,26 @@ fn later_fields(
     date: u64,
     mandate: u64,
     a: u64,
-) -> Checked
+) -> Result<(), Refusal>
     requires lengths { (length line.now ≡ line_length) × (length cells.old ≡ length widths) }
-    requires read { (field_at 0 2 line.now ≡ Value kind) × (field_at 2 9 line.now ≡ Value date) × (field_at 11 10 line.now ≡ Value mandate) × (field_at 21 10 line.now ≡ Value a) }
+    requires read { (field_at 0 2 line.now ≡ Some kind) × (field_at 2 9 line.now ≡ Some date) × (field_at 11 10 line.now ≡ Some mandate) × (field_at 21 10 line.now ≡ Some a) }
     ensures answer { result ≡ checked_line (taken (read_fields widths 0 line.now)) }
     ensures cells { cells.new ≡ cells_by (taken (read_fields widths 0 line.now)) cells.old }
 {
-    let FieldAnswer::Value(b) = field(line, 31, 10) else {
-        return Checked::Refused(Refusal::BadLine);
+    let Some(b) = field(line, 31, 10) else {
+        return Err(Refusal::BadLine);
     };
-    let FieldAnswer::Value(c) = field(line, 41, 10) else {
-        return Checked::Refused(Refusal::BadLine);
+    let Some(c) = field(line, 41, 10) else {
+        return Err(Refusal::BadLine);
     };
-    let FieldAnswer::Value(amount) = field(line, 51, 12) else {
-        return Checked::Refused(Refusal::BadLine);
+    let Some(amount) = field(line, 51, 12) else {
+        return Err(Refusal::BadLine);
     };
-    let FieldAnswer::Value(second) = field(line, 63, 9) else {
-        return Checked::Refused(Refusal::BadLine);
+    let Some(second) = field(line, 63, 9) else {
+        return Err(Refusal::BadLine);
     };
-    let FieldAnswer::Value(code) = field(line, 72, 2) else {
-        return Checked::Refused(Refusal::BadLine);
+    let Some(code) = field(line, 72, 2) else {
+        return Err(Refusal::BadLine);
     };
     match check(Event {
         kind,
@@ -79,8 +64,8 @@ fn later_fields(
         second,
         code,
     }) {
-        Checked::Refused(r) => Checked::Refused(r),
-        Checked::Within => {
+        Err(r) => Err(r),
+        Ok(()) => {
             cells[0] = kind;
             cells[1] = date;
             cells[2] = mandate;
@@ -90,43 +75,43 @@ fn later_fields(
             cells[6] = amount;
             cells[7] = second;
             cells[8] = code;
-            Checked::Within
+            Ok(())
         }
     }
 }
 
 // Reads the fields that stand in a line into nine cells, or changes nothing and gives refusal 1, 3, 4 or 5.
-fn fields(line: &[u8], cells: &mut [u64]) -> Checked
+fn fields(line: &[u8], cells: &mut [u64]) -> Result<(), Refusal>
     requires { (length line.now ≡ line_length) × (length cells.old ≡ length widths) }
     ensures answer { result ≡ checked_line (taken (read_fields widths 0 line.now)) }
     ensures cells { cells.new ≡ cells_by (taken (read_fields widths 0 line.now)) cells.old }
 {
-    let FieldAnswer::Value(kind) = field(line, 0, 2) else {
-        return Checked::Refused(Refusal::BadLine);
+    let Some(kind) = field(line, 0, 2) else {
+        return Err(Refusal::BadLine);
     };
-    let FieldAnswer::Value(date) = field(line, 2, 9) else {
-        return Checked::Refused(Refusal::BadLine);
+    let Some(date) = field(line, 2, 9) else {
+        return Err(Refusal::BadLine);
     };
-    let FieldAnswer::Value(mandate) = field(line, 11, 10) else {
-        return Checked::Refused(Refusal::BadLine);
+    let Some(mandate) = field(line, 11, 10) else {
+        return Err(Refusal::BadLine);
     };
-    let FieldAnswer::Value(a) = field(line, 21, 10) else {
-        return Checked::Refused(Refusal::BadLine);
+    let Some(a) = field(line, 21, 10) else {
+        return Err(Refusal::BadLine);
     };
     later_fields(line, cells, kind, date, mandate, a)
 }
 
 // Reads the event of a line into nine lent cells, its fields in their order, or changes nothing and gives refusal 1, 3, 4 or 5.
-pub fn read_cells(line: &[u8], cells: &mut [u64; FIELDS]) -> Checked
+pub fn read_cells(line: &[u8], cells: &mut [u64; FIELDS]) -> Result<(), Refusal>
     ensures answer { result ≡ checked_line (read_line line.now) }
     ensures cells { cells.new ≡ cells_by (read_line line.now) cells.old }
     ensures number { checked_number result ≡ reader_number line.now }
 {
     if line.len() != LINE {
-        return Checked::Refused(Refusal::BadLine);
+        return Err(Refusal::BadLine);
     }
     if line[COLUMNS] != LINE_END {
-        return Checked::Refused(Refusal::BadLine);
+        return Err(Refusal::BadLine);
     }
     fields(line, cells)
 }
@@ -149,14 +134,14 @@ pub fn event_in(cells: &[u64; FIELDS]) -> Event
 }
 
 // The event of a line, or refusal 1, 3, 4 or 5.
-pub fn read(line: &[u8]) -> LineAnswer
+pub fn read(line: &[u8]) -> Result<Event, Refusal>
     ensures answer { result ≡ read_line line.now }
     ensures number { line_number result ≡ reader_number line.now }
 {
     let mut cells = [0; FIELDS];
     match read_cells(line, &mut cells) {
-        Checked::Refused(r) => LineAnswer::Refused(r),
-        Checked::Within => LineAnswer::Taken(event_in(&cells)),
+        Err(r) => Err(r),
+        Ok(()) => Ok(event_in(&cells)),
     }
 }
 
@@ -178,19 +163,19 @@ fn put_line(e: Event, out: &mut [u8])
 }
 
 // Writes the line of an event to the front of a lent buffer, or writes nothing and gives refusal 2, 3, 4 or 5.
-pub fn write(e: Event, out: &mut [u8]) -> WriteAnswer
+pub fn write(e: Event, out: &mut [u8]) -> Result<(), Refusal>
     ensures answer { result ≡ write_answer e out.old }
     ensures bytes { out.new ≡ bytes_after e out.old }
     ensures number { write_number result ≡ writer_number e out.old }
 {
     if out.len() < LINE {
-        return WriteAnswer::Refused(Refusal::UnfitMemory);
+        return Err(Refusal::UnfitMemory);
     }
     match check(e) {
-        Checked::Refused(r) => WriteAnswer::Refused(r),
-        Checked::Within => {
+        Err(r) => Err(r),
+        Ok(()) => {
             put_line(e, out);
-            WriteAnswer::Written
+            Ok(())
         }
     }
 }

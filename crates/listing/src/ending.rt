@@ -1,7 +1,6 @@
 // The end of the input: specs/Listing.
 ghost use Rattle.listing.specs.Listing.{EndTaken};
 
-use model::Answer;
 use refusals::{Refusal, number_of};
 use report::layout::{ANSWER, LAST_NUMBER, answer_line};
 
@@ -10,7 +9,7 @@ use report::layout::{ANSWER, LAST_NUMBER, answer_line};
 pub struct Ending {
     pub lines: u64,
     pub written: usize,
-    pub answer: Answer,
+    pub answer: Result<(), Refusal>,
 }
 
 // Answers a partial line where the input ends, by the lines answered so far and the number of its bytes. A buffer
@@ -22,14 +21,14 @@ pub fn end_text(lines: u64, partial: usize, out: &mut [u8]) -> Ending
         return Ending {
             lines: lines,
             written: 0,
-            answer: Answer::Refused(Refusal::UnfitMemory),
+            answer: Err(Refusal::UnfitMemory),
         };
     }
     if !((lines < LAST_NUMBER) & (0 < partial)) {
         return Ending {
             lines: lines,
             written: 0,
-            answer: Answer::Accepted,
+            answer: Ok(()),
         };
     }
     let number = lines + 1;
@@ -37,6 +36,6 @@ pub fn end_text(lines: u64, partial: usize, out: &mut [u8]) -> Ending
     Ending {
         lines: number,
         written: ANSWER,
-        answer: Answer::Accepted,
+        answer: Ok(()),
     }
 }

@@ -9,7 +9,6 @@ ghost use Rattle.run.specs.Run.{position_output};
 
 use common::{BANKS, CREDITORS, DEBTORS};
 use fitness::fitness::is_fit;
-use model::Answer;
 use refusals::Refusal;
 use report::layout::{POSITION, position_line};
 use tables::Header;
@@ -17,7 +16,7 @@ use tables::Header;
 // Whether a listing was written, and its bytes.
 #[derive(Clone, Copy)]
 pub struct Listing {
-    pub answer: Answer,
+    pub answer: Result<(), Refusal>,
     pub bytes: usize,
 }
 
@@ -77,7 +76,7 @@ pub fn list_positions(
     );
     if !(fit & (ROOM <= out.len())) {
         return Listing {
-            answer: Answer::Refused(Refusal::UnfitMemory),
+            answer: Err(Refusal::UnfitMemory),
             bytes: 0,
         };
     }
@@ -86,7 +85,7 @@ pub fn list_positions(
     let total = list_kind(out, banks, 3, bank_positions);
     position_line(out, total, 4, 0, header.compensation);
     Listing {
-        answer: Answer::Accepted,
+        answer: Ok(()),
         bytes: total + POSITION,
     }
 }

@@ -1,8 +1,9 @@
 -- Document 01, "What is refused, in checking order", 6 to 17: one test for each number, by what the event asks for.
 -- 2 is `fit` of the tables, 3 to 5 are `checked` of the events. A test that does not concern an event passes.
 -- Assumes nothing.
-use Rattle.std.specs.Prelude.{Bool, true, false, cond, not, ◌&&◌, ◌||◌, List, [], ◌∷◌, ℕ, eqb, leb, ltb}
+use Rattle.std.specs.Prelude.{Bool, true, false, cond, not, ◌&&◌, ◌||◌, List, [], ◌∷◌, ℕ, eqb, leb, ltb, Result, Ok, Err}
 use Rattle.common.specs.Checks.{Check, check, judged}
+use Rattle.refusals.specs.declared.Refusal.{Refusal}
 use Rattle.refusals.specs.declared.Refusal.TheVariants.{BeforeLatest, NotBusinessDay, AlreadyExists, DoesNotExist, NoRowLeft, NotLive, WrongSequence, BadTiming, Lapsed, WrongState, BeforeDue, AfterLastDay}
 use Rattle.calendar.specs.Target.{business_day}
 use Rattle.tables.specs.declared.Mandate.{Mandate}
@@ -12,8 +13,6 @@ use Rattle.tables.specs.declared.State.{State}
 use Rattle.tables.specs.declared.State.TheVariants.{Presented, Rejected, Settled, Undone}
 use Rattle.tables.specs.Ledger.{Ledger, added}
 use Rattle.tables.specs.Rows.{rows}
-use Rattle.model.specs.declared.Answer.{Answer}
-use Rattle.model.specs.declared.Answer.TheVariants.{Accepted, Refused}
 use Rattle.model.specs.declared.Action.{Action}
 use Rattle.model.specs.declared.Change.{Change}
 use Rattle.model.specs.declared.Treatment.{Treatment}
@@ -181,21 +180,21 @@ by_last_day l (Treat n t) date = of_known (collection_of l n) (λ k. time_treate
 
 -- ---- the checking order
 
-abbrev pub checks : Ledger → ℕ → Action → List (Check Answer)
+abbrev pub checks : Ledger → ℕ → Action → List (Check (Result Unit Refusal))
 checks l date a =
-    check (in_order l date) (Refused BeforeLatest)  -- 6
-    ∷ check (on_business_day a date) (Refused NotBusinessDay)  -- 7
-    ∷ check (is_new l a) (Refused AlreadyExists)  -- 8
-    ∷ check (is_there l a) (Refused DoesNotExist)  -- 9
-    ∷ check (has_row l a) (Refused NoRowLeft)  -- 10
-    ∷ check (is_live l a) (Refused NotLive)  -- 11
-    ∷ check (in_sequence l a) (Refused WrongSequence)  -- 12
-    ∷ check (on_time a date) (Refused BadTiming)  -- 13
-    ∷ check (not_lapsed l a) (Refused Lapsed)  -- 14
-    ∷ check (in_state l a) (Refused WrongState)  -- 15
-    ∷ check (not_before_due l a date) (Refused BeforeDue)  -- 16
-    ∷ check (by_last_day l a date) (Refused AfterLastDay)  -- 17
+    check (in_order l date) (Err BeforeLatest)  -- 6
+    ∷ check (on_business_day a date) (Err NotBusinessDay)  -- 7
+    ∷ check (is_new l a) (Err AlreadyExists)  -- 8
+    ∷ check (is_there l a) (Err DoesNotExist)  -- 9
+    ∷ check (has_row l a) (Err NoRowLeft)  -- 10
+    ∷ check (is_live l a) (Err NotLive)  -- 11
+    ∷ check (in_sequence l a) (Err WrongSequence)  -- 12
+    ∷ check (on_time a date) (Err BadTiming)  -- 13
+    ∷ check (not_lapsed l a) (Err Lapsed)  -- 14
+    ∷ check (in_state l a) (Err WrongState)  -- 15
+    ∷ check (not_before_due l a date) (Err BeforeDue)  -- 16
+    ∷ check (by_last_day l a date) (Err AfterLastDay)  -- 17
     ∷ []
 
-unfoldable pub ruled : Ledger → ℕ → Action → Answer
-ruled l date a = judged (checks l date a) Accepted
+unfoldable pub ruled : Ledger → ℕ → Action → Result Unit Refusal
+ruled l date a = judged (checks l date a) (Ok tt)

@@ -1,21 +1,19 @@
 -- Document 01, "Ten events": the kept due, the last days after a settle, the lapse of a mandate. What an
 -- error here is caught by is worded in specs/Promises and specs/Journal. Assumes nothing.
-use Rattle.std.specs.Prelude.{Bool, cond, not, ◌&&◌, ℕ, ◌-◌, eqb}
+use Rattle.std.specs.Prelude.{Bool, cond, not, ◌&&◌, ℕ, ◌-◌, eqb, Option, Some, None}
 use Rattle.calendar.specs.DayNumber.{day_number}
 use Rattle.calendar.specs.Target.{first_business_day, last_business_day_before}
 use Rattle.calendar.specs.Periods.{days_after, months_after, period_end, is_after}
 use Rattle.calendar.specs.declared.Period.{Period}
-use Rattle.calendar.specs.declared.DateAnswer.{DateAnswer}
-use Rattle.calendar.specs.declared.DateAnswer.TheVariants.{Date, NoDate}
 use Rattle.model.specs.declared.Way.{Way}
 use Rattle.model.specs.declared.Way.TheVariants.{ByReturn, ByRefund, ByReversal}
 
 -- ---- the kept due
 
 -- a date that was worked out; from dates in range there is always one
-abbrev pub date_found : DateAnswer → ℕ
-date_found (Date x) = x
-date_found NoDate = 0
+abbrev pub date_found : Option ℕ → ℕ
+date_found (Some x) = x
+date_found None = 0
 
 -- "Kept due is the first business day on or after the requested date" ("Ten events")
 unfoldable pub kept_due : ℕ → ℕ
@@ -61,7 +59,7 @@ period_of p ByReturn = p.returning
 period_of p (ByRefund rate code) = cond (eqb code 0) p.authorised p.unauthorised
 period_of p ByReversal = p.reversing
 
-unfoldable pub last_day : Way → ℕ → DateAnswer
+unfoldable pub last_day : Way → ℕ → Option ℕ
 last_day way settled = period_end (period_of core way) settled
 
 -- the event date is not after the last day
@@ -75,7 +73,7 @@ days_since settled date = day_number date - day_number settled
 -- ---- lapse
 
 -- the end of 36 months that run from the kept due last presented or, where nothing was presented, from signing
-unfoldable pub lapse_end : ℕ → ℕ → DateAnswer
+unfoldable pub lapse_end : ℕ → ℕ → Option ℕ
 lapse_end presented signed = months_after (record { 0 = 36 }) (cond (eqb presented 0) signed presented)
 
 -- a collect of this kept due comes after that end

@@ -1,13 +1,11 @@
 -- Document 01, "Ten events" and "Postings": what an accepted event does to the ledger. It reads the lowest row of a number,
 -- writes that row or the next one, and posts to the parties and banks that the collection keeps.
 -- Assumes nothing.
-use Rattle.std.specs.Prelude.{Bool, cond, not, ◌&&◌, ◌||◌, List, ℕ, ◌+◌, ◌-◌, eqb, leb, ◌+ℤ◌, set}
+use Rattle.std.specs.Prelude.{Bool, cond, not, ◌&&◌, ◌||◌, List, ℕ, ◌+◌, ◌-◌, eqb, leb, ◌+ℤ◌, set, Option, Some, None}
 use Rattle.positions.specs.Positions.{posted}
 use Rattle.positions.specs.Postings.{settlement, reversed, refunded}
 use Rattle.positions.specs.Compensation.{compensation as compensationFor}
 use Rattle.positions.specs.declared.Postings.{Postings}
-use Rattle.tables.specs.declared.Found.{Found}
-use Rattle.tables.specs.declared.Found.TheVariants.{At, Nothing}
 use Rattle.tables.specs.declared.Mandate.{Mandate}
 use Rattle.tables.specs.declared.Collection.{Collection}
 use Rattle.tables.specs.declared.Standing.TheVariants.{Closed, Cancelled}
@@ -80,9 +78,9 @@ with_postings l k p = record {
 
 -- ---- the row of a number
 
-abbrev pub at_row : Found → Ledger → (ℕ → Ledger) → Ledger
-at_row Nothing l f = l
-at_row (At row) l f = f row
+abbrev pub at_row : Option ℕ → Ledger → (ℕ → Ledger) → Ledger
+at_row None l f = l
+at_row (Some row) l f = f row
 
 abbrev pub at_mandate : Ledger → ℕ → (ℕ → Mandate → Ledger) → Ledger
 at_mandate l n f = at_row (lookup l.mandates l.mandates_used n) l (λ row. f row (mandate_at l.mandates row))

@@ -2,11 +2,9 @@
 -- by the fields of the event and takes no rule from the ledger's step: neither how an action is read off the fields, nor what an
 -- effect does, nor what is posted. Shared are the calendar, compensation as a function of numbers, and the standings of a mandate.
 -- proofs/Laws/Wordings has the law that an event within its limits is noted as the step would have it. Assumes nothing.
-use Rattle.std.specs.Prelude.{Bool, cond, ◌||◌, List, [], ◌∷◌, ℕ, ◌+◌, ◌-◌, eqb, ℤ, pos, neg_ℤ, ◌+ℤ◌}
+use Rattle.std.specs.Prelude.{Bool, cond, ◌||◌, List, [], ◌∷◌, ℕ, ◌+◌, ◌-◌, eqb, ℤ, pos, neg_ℤ, ◌+ℤ◌, Option, Some, None}
 use Rattle.calendar.specs.DayNumber.{day_number}
 use Rattle.calendar.specs.Target.{first_business_day}
-use Rattle.calendar.specs.declared.DateAnswer.{DateAnswer}
-use Rattle.calendar.specs.declared.DateAnswer.TheVariants.{Date, NoDate}
 use Rattle.events.specs.declared.Event.{Event}
 use Rattle.positions.specs.Compensation.{compensation as compensationFor}
 use Rattle.tables.specs.declared.Standing.{Standing}
@@ -157,9 +155,9 @@ cancelled m = noted_anew m m.creditor m.bank Cancelled m.presented
 -- ---- collects: bullet 5
 
 -- the date that was found for a kept due; from a requested date in range there is one
-abbrev pub due_on : DateAnswer → ℕ
-due_on (Date x) = x
-due_on NoDate = 0
+abbrev pub due_on : Option ℕ → ℕ
+due_on (Some x) = x
+due_on None = 0
 
 -- code 2 is FNAL, 3 OOFF
 abbrev pub is_last : ℕ → Bool

@@ -1,8 +1,6 @@
 -- Document 01, "Records": what the ledger has under a number. Where rows share a number the lowest counts.
 -- Assumes nothing.
-use Rattle.std.specs.Prelude.{Bool, true, false, ℕ}
-use Rattle.tables.specs.declared.Found.{Found}
-use Rattle.tables.specs.declared.Found.TheVariants.{At, Nothing}
+use Rattle.std.specs.Prelude.{Bool, true, false, ℕ, Option, Some, None}
 use Rattle.tables.specs.declared.Mandate.{Mandate}
 use Rattle.tables.specs.declared.Collection.{Collection}
 use Rattle.tables.specs.Ledger.{Ledger}
@@ -24,9 +22,9 @@ of_known unknown t = true
 of_known (known a) t = t a
 
 -- the record in the row that was found
-abbrev pub in_row : {A : Type 0} → Found → (ℕ → A) → Known A
-in_row Nothing f = unknown
-in_row (At row) f = known (f row)
+abbrev pub in_row : {A : Type 0} → Option ℕ → (ℕ → A) → Known A
+in_row None f = unknown
+in_row (Some row) f = known (f row)
 
 unfoldable pub mandate_of : Ledger → ℕ → Known Mandate
 mandate_of l number = in_row (lookup l.mandates l.mandates_used number) (mandate_at l.mandates)

@@ -2,12 +2,10 @@
 -- `Kept` has its parts, in the order in which they are demanded. proofs/Laws/Theorem has the proof.
 -- Then `AgreesFromAnyStart`, the claim about lists that start on any tables, and what is promised of one call: `Timing`, `MandatesNotAsked`,
 -- `UnusedRows`, and the answers in numbers. Assumes nothing.
-use Rattle.std.specs.Prelude.{◌≡◌, true, cond, ◌&&◌, List, [], ◌∷◌, ◌++◌, ℕ, zero, suc, ◌+◌, ◌*◌, ◌≤◌, eqb, ℤ, pos, ◌+ℤ◌, length, get_or}
+use Rattle.std.specs.Prelude.{◌≡◌, true, cond, ◌&&◌, List, [], ◌∷◌, ◌++◌, ℕ, zero, suc, ◌+◌, ◌*◌, ◌≤◌, eqb, ℤ, pos, ◌+ℤ◌, length, get_or, Option, Some, Ok}
 use Rattle.calendar.specs.Gregorian.{in_range}
 use Rattle.calendar.specs.Target.{first_business_day, last_business_day_before}
 use Rattle.calendar.specs.Periods.{days_after, business_days_after, months_after, and_then}
-use Rattle.calendar.specs.declared.DateAnswer.{DateAnswer}
-use Rattle.calendar.specs.declared.DateAnswer.TheVariants.{Date}
 use Rattle.events.specs.declared.Event.{Event}
 use Rattle.common.specs.Tests.{among}
 use Rattle.tables.specs.Limits.{creditor_count, debtor_count, bank_count, stride}
@@ -16,7 +14,6 @@ use Rattle.tables.specs.Ledger.{Ledger, ledger, bank_of}
 use Rattle.fitness.specs.Fitness.{sizes_fit, fit}
 use Rattle.opening.specs.Opening.{opening, opened}
 use Rattle.tables.specs.declared.Standing.TheVariants.{Live}
-use Rattle.model.specs.declared.QueryAnswer.TheVariants.{Figure}
 use Rattle.model.specs.declared.Treatment.{Treatment}
 use Rattle.model.specs.declared.Action.TheVariants.{Treat}
 use Rattle.model.specs.Deadlines.{kept_due, timely}
@@ -58,7 +55,7 @@ undoings = 8 ∷ 9 ∷ 10 ∷ []
 -- ---- limits, said once more: what an error of specs/Deadlines is to be caught by
 
 -- the last day of a return, refund or reversal, from S, by the kind and code of the event
-abbrev pub last_day_from : ℕ → ℕ → ℕ → DateAnswer
+abbrev pub last_day_from : ℕ → ℕ → ℕ → Option ℕ
 last_day_from kind code settled =
     cond (eqb kind 9)
     (cond (eqb code 0)
@@ -67,13 +64,13 @@ last_day_from kind code settled =
     (business_days_after (record { 0 = 5 }) settled)
 
 -- the day until which a mandate is not lapsed, from the due last presented or from signing
-abbrev pub lapse_from : NotedMandate → DateAnswer
+abbrev pub lapse_from : NotedMandate → Option ℕ
 lapse_from m = months_after (record { 0 = 36 }) (cond (eqb m.presented 0) m.signed m.presented)
 
 -- the limit is a date of the calendar, and the date is not after it
-pub record NotAfter (date : ℕ) (limit : DateAnswer) : Type 0 where
+pub record NotAfter (date : ℕ) (limit : Option ℕ) : Type 0 where
   pub last : ℕ
-  pub is : limit ≡ Date last
+  pub is : limit ≡ Some last
   pub not_after : date ≤ last
 
 -- refusal 13 does not apply: it is requested for the 14th calendar day after the event date or earlier, and presented on the last
@@ -97,7 +94,7 @@ pub record CollectedLive (before : List Entry) (e : Event) : Type 0 where
   pub is_noted : (journal before).mandates e.mandate ≡ known mandate
   pub is_live : mandate.standing ≡ Live
   pub due : ℕ
-  pub is_due : first_business_day e.second ≡ Date due
+  pub is_due : first_business_day e.second ≡ Some due
   pub not_lapsed_lem : NotAfter due (lapse_from mandate)
   pub in_time_lem : InGoodTime e.date e.second
 
@@ -107,7 +104,7 @@ pub record Kept (l : Ledger) (es : List Event) : Type 0 where
   -- the figures that are asked for are the journal's
   pub figures :
       (kind number : ℕ) → in_query kind number ≡ true
-      → query (run l es) kind number ≡ Figure (figure_in (journal (history l es)) kind number)
+      → query (run l es) kind number ≡ Ok (figure_in (journal (history l es)) kind number)
   -- both sums are zero: the parties with the compensation, and the banks
   pub parties :
       sum_of (run l es) 1 creditor_count +ℤ sum_of (run l es) 2 debtor_count +ℤ answered (query (run l es) 4 0) ≡ pos 0

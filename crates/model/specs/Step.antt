@@ -1,23 +1,18 @@
 -- The calls. An event is answered by the first test that fails, or accepted; a refused one leaves the ledger as it was.
 -- Document 01, "What is refused, in checking order": an event gets 2 to 17, a position query 2 or 5.
 -- Assumes nothing.
-use Rattle.std.specs.Prelude.{Bool, true, false, cond, ◌&&◌, List, [], ◌∷◌, ℕ, eqb, leb, ℤ, pos}
+use Rattle.std.specs.Prelude.{Bool, true, false, cond, ◌&&◌, List, [], ◌∷◌, ℕ, eqb, leb, ℤ, pos, Result, Ok, Err}
 use Rattle.common.specs.Checks.{Check, check, judged}
+use Rattle.refusals.specs.declared.Refusal.{Refusal}
 use Rattle.refusals.specs.Refusals.{number_of}
 use Rattle.refusals.specs.declared.Refusal.TheVariants.{UnfitMemory, BadField}
 use Rattle.events.specs.declared.Event.{Event}
-use Rattle.events.specs.declared.limits.Checked.{Checked}
-use Rattle.events.specs.declared.limits.Checked.TheVariants as events
 use Rattle.calendar.specs.Gregorian.{in_range}
 use Rattle.events.specs.Limits.{within, kinds, fields_fit, checked}
 use Rattle.positions.specs.Positions.{position}
 use Rattle.tables.specs.Limits.{creditor_count, debtor_count, bank_count}
 use Rattle.tables.specs.Ledger.{Ledger}
 use Rattle.fitness.specs.Fitness.{fit}
-use Rattle.model.specs.declared.Answer.{Answer}
-use Rattle.model.specs.declared.Answer.TheVariants.{Accepted, Refused}
-use Rattle.model.specs.declared.QueryAnswer.{QueryAnswer}
-use Rattle.model.specs.declared.QueryAnswer.TheVariants as queries
 use Rattle.model.specs.Actions.{action_of}
 use Rattle.model.specs.Checks.{in_order, on_business_day, is_new, is_there, has_row, is_live, in_sequence, on_time, not_lapsed, in_state, not_before_due, by_last_day, ruled}
 use Rattle.model.specs.Effects.{effect}
@@ -25,21 +20,21 @@ use Rattle.model.specs.Effects.{effect}
 -- ---- one event
 
 -- the paper's number of an answer
-abbrev pub answer_number : Answer → ℕ
-answer_number Accepted = 0
-answer_number (Refused r) = number_of r
+abbrev pub answer_number : Result Unit Refusal → ℕ
+answer_number (Ok tt) = 0
+answer_number (Err r) = number_of r
 
-abbrev pub is_accepted : Answer → Bool
-is_accepted Accepted = true
-is_accepted (Refused r) = false
+abbrev pub is_accepted : Result Unit Refusal → Bool
+is_accepted (Ok tt) = true
+is_accepted (Err r) = false
 
 -- 3 to 5 come first
-abbrev pub then_ruled : Checked → Answer → Answer
-then_ruled events.Within a = a
-then_ruled (events.Refused r) a = Refused r
+abbrev pub then_ruled : Result Unit Refusal → Result Unit Refusal → Result Unit Refusal
+then_ruled (Ok tt) a = a
+then_ruled (Err r) a = Err r
 
-unfoldable pub answer : Ledger → Event → Answer
-answer l e = cond (fit l) (then_ruled (checked e) (ruled l e.date (action_of e))) (Refused UnfitMemory)
+unfoldable pub answer : Ledger → Event → Result Unit Refusal
+answer l e = cond (fit l) (then_ruled (checked e) (ruled l e.date (action_of e))) (Err UnfitMemory)
 
 -- the checking order in the paper's numbers: the number of the first test that fails
 abbrev pub numbers : Ledger → Event → List (Check ℕ)
@@ -67,9 +62,9 @@ unfoldable pub event_number : Ledger → Event → ℕ
 event_number l e = judged (numbers l e) 0
 
 -- the ledger after an answer
-abbrev pub after_answer : Answer → Ledger → Ledger → Ledger
-after_answer Accepted changed l = changed
-after_answer (Refused r) changed l = l
+abbrev pub after_answer : Result Unit Refusal → Ledger → Ledger → Ledger
+after_answer (Ok tt) changed l = changed
+after_answer (Err r) changed l = l
 
 unfoldable pub after : Ledger → Event → Ledger
 after l e = after_answer (answer l e) (effect l e.date (action_of e)) l
@@ -91,20 +86,20 @@ figure_of l kind number =
     (cond (eqb kind 3) (position l.bank_positions number)
     l.compensation))
 
-unfoldable pub query : Ledger → ℕ → ℕ → QueryAnswer
+unfoldable pub query : Ledger → ℕ → ℕ → Result ℤ Refusal
 query l kind number =
     cond (fit l)
-    (cond (in_query kind number) (queries.Figure (figure_of l kind number)) (queries.Refused BadField))
-    (queries.Refused UnfitMemory)
+    (cond (in_query kind number) (Ok (figure_of l kind number)) (Err BadField))
+    (Err UnfitMemory)
 
 -- the paper's number of its answer, and the value: the figure in cents, 0 where there is none
-abbrev pub query_number : QueryAnswer → ℕ
-query_number (queries.Figure z) = 0
-query_number (queries.Refused r) = number_of r
+abbrev pub query_number : Result ℤ Refusal → ℕ
+query_number (Ok z) = 0
+query_number (Err r) = number_of r
 
-abbrev pub answered : QueryAnswer → ℤ
-answered (queries.Figure z) = z
-answered (queries.Refused r) = pos 0
+abbrev pub answered : Result ℤ Refusal → ℤ
+answered (Ok z) = z
+answered (Err r) = pos 0
 
 -- ---- a list of events, each finding the ledger as the one before left it
 

@@ -51,16 +51,3 @@ pub enum Action {
     Treat(u64, Treatment),
 }
 
-// The answer to an event.
-#[derive(Clone, Copy)]
-pub enum Answer {
-    Accepted,
-    Refused(Refusal),
-}
-
-// The answer to a position query: the figure in cents.
-#[derive(Clone, Copy)]
-pub enum QueryAnswer {
-    Figure(i64),
-    Refused(Refusal),
-}

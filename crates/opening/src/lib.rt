@@ -9,16 +9,10 @@ use fitness::fitness::sizes_fit;
 use refusals::Refusal;
 use tables::Header;
 
-#[derive(Clone, Copy)]
-pub enum OpenAnswer {
-    Opened,
-    Refused(Refusal),
-}
-
 // The answer of an opening, and the header after it.
 #[derive(Clone, Copy)]
 pub struct OpenOutcome {
-    pub answer: OpenAnswer,
+    pub answer: Result<(), Refusal>,
     pub header: Header,
 }
 
@@ -64,7 +58,7 @@ pub fn open_ledger(
         bank_positions,
     ) {
         return OpenOutcome {
-            answer: OpenAnswer::Refused(Refusal::UnfitMemory),
+            answer: Err(Refusal::UnfitMemory),
             header: header,
         };
     }
@@ -73,7 +67,7 @@ pub fn open_ledger(
     clear_positions(debtor_positions);
     clear_positions(bank_positions);
     OpenOutcome {
-        answer: OpenAnswer::Opened,
+        answer: Ok(()),
         header: Header {
             latest: 0,
             mandates: 0,

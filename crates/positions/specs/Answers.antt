@@ -1,14 +1,13 @@
 -- What the calls answer, and what they leave in a table of positions: a refusal leaves every one as it was.
 -- Assumes nothing.
-use Rattle.std.specs.Prelude.{Bool, cond, ◌&&◌, List, ℕ, leb, ℤ}
+use Rattle.std.specs.Prelude.{Bool, cond, ◌&&◌, List, ℕ, leb, ℤ, Option, Some, None}
 use Rattle.positions.specs.Compensation.{amount_limit}
 use Rattle.positions.specs.Limits.{compensation_limit}
 use Rattle.positions.specs.Postings.{settlement, reversed, refunded}
 use Rattle.positions.specs.Positions.{has_entry, position, posted, transferred, in_limit}
 use Rattle.positions.specs.declared.PostAnswer.{PostAnswer}
 use Rattle.positions.specs.declared.PostAnswer.TheVariants.{Posted, NoEntry, TooLarge}
-use Rattle.positions.specs.declared.PostingsAnswer.{PostingsAnswer}
-use Rattle.positions.specs.declared.PostingsAnswer.TheVariants.{Amounts, OutsideLimits}
+use Rattle.positions.specs.declared.Postings.{Postings}
 
 -- the numbers that a posting adds lie within this on either side, so that 64 bits hold their sum
 abbrev pub capacity : ℕ
@@ -48,11 +47,11 @@ after_transfer l from to x = table_after (transfer_answer l from to x) (transfer
 
 -- ---- what an event posts, for a row's amounts and their compensation
 
-unfoldable pub settlement_of : ℕ → PostingsAnswer
-settlement_of A = cond (leb A amount_limit) (Amounts (settlement A)) OutsideLimits
+unfoldable pub settlement_of : ℕ → Option Postings
+settlement_of A = cond (leb A amount_limit) (Some (settlement A)) None
 
-unfoldable pub reversed_of : ℕ → PostingsAnswer
-reversed_of A = cond (leb A amount_limit) (Amounts (reversed A)) OutsideLimits
+unfoldable pub reversed_of : ℕ → Option Postings
+reversed_of A = cond (leb A amount_limit) (Some (reversed A)) None
 
-unfoldable pub refunded_of : ℕ → ℕ → PostingsAnswer
-refunded_of A K = cond (leb A amount_limit && leb K compensation_limit) (Amounts (refunded A K)) OutsideLimits
+unfoldable pub refunded_of : ℕ → ℕ → Option Postings
+refunded_of A K = cond (leb A amount_limit && leb K compensation_limit) (Some (refunded A K)) None

@@ -1,10 +1,8 @@
 -- The compensation of a refund. Document 01, "Postings": "K = A × rate × days / 3,600,000, a half cent going up".
 -- Assumes nothing.
-use Rattle.std.specs.Prelude.{Bool, cond, [], ◌∷◌, ℕ, ◌+◌, ◌*◌, ◌/◌, ◌≤◌, leb}
+use Rattle.std.specs.Prelude.{Bool, cond, [], ◌∷◌, ℕ, ◌+◌, ◌*◌, ◌/◌, ◌≤◌, leb, Option, Some, None}
 use Rattle.common.specs.Tests.{all_of}
 pub use Rattle.common.specs.Limits.{amount_limit, rate_limit}
-use Rattle.positions.specs.declared.CompensationAnswer.{CompensationAnswer}
-use Rattle.positions.specs.declared.CompensationAnswer.TheVariants.{Cents, OutsideLimits}
 
 -- the rate is in hundredths of a percent for a year of 360 days: a cent has 10,000 × 360 parts
 abbrev pub parts_of_cent : ℕ
@@ -46,5 +44,5 @@ pub record InLimits (amount rate days : ℕ) : Type 0 where
 abbrev pub interest_bound : ℕ
 interest_bound = 1000000000000000000
 
-unfoldable pub compensation_of : ℕ → ℕ → ℕ → CompensationAnswer
-compensation_of amount rate days = cond (in_limits amount rate days) (Cents (compensation amount rate days)) OutsideLimits
+unfoldable pub compensation_of : ℕ → ℕ → ℕ → Option ℕ
+compensation_of amount rate days = cond (in_limits amount rate days) (Some (compensation amount rate days)) None

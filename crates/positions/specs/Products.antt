@@ -1,14 +1,11 @@
 -- The products by which a compensation is worked out, the amount being the last factor, and the calls for them. Document 02, (g).
 -- Numbers cannot show in which order they were multiplied: what is held here is each product, and that K comes of the second.
 -- Assumes nothing.
-use Rattle.std.specs.Prelude.{◌≡◌, List, [], ◌∷◌, ◌++◌, ℕ, ◌*◌, leb}
+use Rattle.std.specs.Prelude.{◌≡◌, List, [], ◌∷◌, ◌++◌, ℕ, ◌*◌, leb, Option, Some, None, Result, Ok, Err}
 use Rattle.common.specs.Checks.{Check, check, judged}
+use Rattle.refusals.specs.declared.Refusal.{Refusal}
 use Rattle.refusals.specs.Refusals.{number_of}
 use Rattle.refusals.specs.declared.Refusal.TheVariants.{BadField}
-use Rattle.positions.specs.declared.CompensationAnswer.{CompensationAnswer}
-use Rattle.positions.specs.declared.CompensationAnswer.TheVariants.{Cents, OutsideLimits}
-use Rattle.positions.specs.declared.ProductAnswer.{ProductAnswer}
-use Rattle.positions.specs.declared.ProductAnswer.TheVariants.{Product, Refused}
 use Rattle.positions.specs.Compensation.{amount_limit, rate_limit, days_limit, parts_of_cent, interest, half_up, compensation_of}
 
 -- ---- the products
@@ -30,29 +27,29 @@ abbrev pub rate_days_amount_checks : {A : Type 0} → A → ℕ → ℕ → ℕ 
 rate_days_amount_checks bad days rate amount =
     rate_days_checks bad days rate ++ (check (leb 1 amount) bad ∷ check (leb amount amount_limit) bad ∷ [])
 
-unfoldable pub rate_days_answer : ℕ → ℕ → ProductAnswer
-rate_days_answer days rate = judged (rate_days_checks (Refused BadField) days rate) (Product (rate_days days rate))
+unfoldable pub rate_days_answer : ℕ → ℕ → Result ℕ Refusal
+rate_days_answer days rate = judged (rate_days_checks (Err BadField) days rate) (Ok (rate_days days rate))
 
-unfoldable pub rate_days_amount_answer : ℕ → ℕ → ℕ → ProductAnswer
+unfoldable pub rate_days_amount_answer : ℕ → ℕ → ℕ → Result ℕ Refusal
 rate_days_amount_answer days rate amount =
-    judged (rate_days_amount_checks (Refused BadField) days rate amount) (Product (rate_days_amount days rate amount))
+    judged (rate_days_amount_checks (Err BadField) days rate amount) (Ok (rate_days_amount days rate amount))
 
 -- the paper's number of an answer, and the value: the product, 0 where there is none
-abbrev pub product_number : ProductAnswer → ℕ
-product_number (Product p) = 0
-product_number (Refused r) = number_of r
+abbrev pub product_number : Result ℕ Refusal → ℕ
+product_number (Ok p) = 0
+product_number (Err r) = number_of r
 
-abbrev pub product_value : ProductAnswer → ℕ
-product_value (Product p) = p
-product_value (Refused r) = 0
+abbrev pub product_value : Result ℕ Refusal → ℕ
+product_value (Ok p) = p
+product_value (Err r) = 0
 
 -- the answer of a call, its number and its value
-pub record RateDaysCall (days rate : ℕ) (r : ProductAnswer) : Type 0 where
+pub record RateDaysCall (days rate : ℕ) (r : Result ℕ Refusal) : Type 0 where
   pub answer_is : r ≡ rate_days_answer days rate
   pub number_is : product_number r ≡ judged (rate_days_checks 5 days rate) 0
   pub value_is : product_value r ≡ judged (rate_days_checks 0 days rate) (days * rate)
 
-pub record RateDaysAmountCall (days rate amount : ℕ) (r : ProductAnswer) : Type 0 where
+pub record RateDaysAmountCall (days rate amount : ℕ) (r : Result ℕ Refusal) : Type 0 where
   pub answer_is : r ≡ rate_days_amount_answer days rate amount
   pub number_is : product_number r ≡ judged (rate_days_amount_checks 5 days rate amount) 0
   pub value_is : product_value r ≡ judged (rate_days_amount_checks 0 days rate amount) (days * rate * amount)
@@ -60,9 +57,9 @@ pub record RateDaysAmountCall (days rate amount : ℕ) (r : ProductAnswer) : Typ
 -- ---- what holds of them
 
 -- the compensation that a product comes to
-abbrev pub cents_of : ProductAnswer → CompensationAnswer
-cents_of (Product p) = Cents (half_up p parts_of_cent)
-cents_of (Refused r) = OutsideLimits
+abbrev pub cents_of : Result ℕ Refusal → Option ℕ
+cents_of (Ok p) = Some (half_up p parts_of_cent)
+cents_of (Err r) = None
 
 pub record Products : Type 0 where
   -- the second product is the interest in another order
@@ -72,5 +69,5 @@ pub record Products : Type 0 where
   -- for one cent it is that of days and rate alone, given for the same days and rates
   pub of_one_cent : (days rate : ℕ) → rate_days_amount_answer days rate 1 ≡ rate_days_answer days rate
   -- the case of the request: 5,000 cents at 360 for 1 day
-  pub worked_first : rate_days_answer 1 360 ≡ Product 360
-  pub worked_second : rate_days_amount_answer 1 360 5000 ≡ Product 1800000
+  pub worked_first : rate_days_answer 1 360 ≡ Ok 360
+  pub worked_second : rate_days_amount_answer 1 360 5000 ≡ Ok 1800000

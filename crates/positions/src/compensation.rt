@@ -3,7 +3,6 @@ ghost use Rattle.std.specs.Prelude.{◌≡◌, ◌<◌, ◌≤◌};
 ghost use Rattle.positions.specs.Compensation.{parts_of_cent, interest as interestIn, interest_bound, half_up, rate_limit, days_limit, in_limits, InLimits, compensation_of};
 ghost use Rattle.positions.specs.Products.{rate_days, RateDaysCall, RateDaysAmountCall};
 
-use crate::{CompensationAnswer, ProductAnswer};
 use common::{AMOUNT_LIMIT, RATE_LIMIT};
 use refusals::Refusal;
 
@@ -45,31 +44,31 @@ fn half_up(parts: u64) -> u64
 }
 
 // The compensation of a refund of an amount at a rate after some days.
-pub fn compensation(amount: u64, rate: u64, days: u64) -> CompensationAnswer
+pub fn compensation(amount: u64, rate: u64, days: u64) -> Option<u64>
     ensures { result ≡ compensation_of amount rate days }
 {
     if in_limits(amount, rate, days) {
-        return CompensationAnswer::Cents(half_up(interest(amount, rate, days)));
+        return Some(half_up(interest(amount, rate, days)));
     }
-    CompensationAnswer::OutsideLimits
+    None
 }
 
 // The product of days and rate, as it goes into the interest; refused 5 outside their limits.
-pub fn rate_days(days: u64, rate: u64) -> ProductAnswer
+pub fn rate_days(days: u64, rate: u64) -> Result<u64, Refusal>
     ensures { RateDaysCall days rate result }
 {
     if (days <= DAYS_LIMIT) & (rate <= RATE_LIMIT) {
-        return ProductAnswer::Product(days_times_rate(days, rate));
+        return Ok(days_times_rate(days, rate));
     }
-    ProductAnswer::Refused(Refusal::BadField)
+    Err(Refusal::BadField)
 }
 
 // The product of days, rate and the amount of a row, which is the interest; refused 5 outside their limits.
-pub fn rate_days_amount(days: u64, rate: u64, amount: u64) -> ProductAnswer
+pub fn rate_days_amount(days: u64, rate: u64, amount: u64) -> Result<u64, Refusal>
     ensures { RateDaysAmountCall days rate amount result }
 {
     if in_limits(amount, rate, days) {
-        return ProductAnswer::Product(interest(amount, rate, days));
+        return Ok(interest(amount, rate, days));
     }
-    ProductAnswer::Refused(Refusal::BadField)
+    Err(Refusal::BadField)
 }

@@ -19,20 +19,6 @@ pub enum PostAnswer {
     TooLarge,
 }
 
-// A compensation in cents, or an amount, a rate or days outside their limits.
-#[derive(Clone, Copy)]
-pub enum CompensationAnswer {
-    Cents(u64),
-    OutsideLimits,
-}
-
-// A product by which a compensation is worked out, or a number outside its limits.
-#[derive(Clone, Copy)]
-pub enum ProductAnswer {
-    Product(u64),
-    Refused(Refusal),
-}
-
 // The amounts that one event posts: to the debtor, the creditor, the bank of each and total compensation.
 #[derive(Clone, Copy)]
 pub struct Postings {
@@ -43,9 +29,3 @@ pub struct Postings {
     pub compensation: i64,
 }
 
-// What an event posts, or an amount or a compensation outside its limit.
-#[derive(Clone, Copy)]
-pub enum PostingsAnswer {
-    Amounts(Postings),
-    OutsideLimits,
-}

@@ -5,8 +5,8 @@
 use positions::amounts::{refunded, reversed, settlement};
 use positions::compensation::{compensation, rate_days, rate_days_amount};
 use positions::posting::{post, transfer};
-use positions::{CompensationAnswer, PostAnswer, PostingsAnswer, ProductAnswer};
-use refusals::number_of;
+use positions::PostAnswer;
+use refusals::{Refusal, number_of};
 use std::io;
 
 // Amount, rate and days of each case: the worked cases of document 01, the limits, numbers chosen at random, exact halves.
@@ -206,15 +206,15 @@ fn show_values(rt: &impl Print, amount: u64, rate: u64, days: u64) -> io::Result
 fn show_compensation(rt: &impl Print, amount: u64, rate: u64, days: u64) -> io::Result<()> {
     show_values(rt, amount, rate, days)?;
     match compensation(amount, rate, days) {
-        CompensationAnswer::Cents(k) => println!(rt; "{k}"),
-        CompensationAnswer::OutsideLimits => println!(rt; "outside"),
+        Some(k) => println!(rt; "{k}"),
+        None => println!(rt; "outside"),
     }
 }
 
-fn show_product(rt: &impl Print, answer: ProductAnswer) -> io::Result<()> {
+fn show_product(rt: &impl Print, answer: Result<u64, Refusal>) -> io::Result<()> {
     match answer {
-        ProductAnswer::Product(p) => print!(rt; "product {p}"),
-        ProductAnswer::Refused(r) => print!(rt; "refused {}", number_of(r)),
+        Ok(p) => print!(rt; "product {p}"),
+        Err(r) => print!(rt; "refused {}", number_of(r)),
     }
 }
 
@@ -283,13 +283,13 @@ fn show_postings(rt: &impl Print) -> io::Result<()> {
     show_transfers(rt, &mut t)
 }
 
-fn show_amounts(rt: &impl Print, answer: PostingsAnswer) -> io::Result<()> {
+fn show_amounts(rt: &impl Print, answer: Option<Postings>) -> io::Result<()> {
     match answer {
-        PostingsAnswer::Amounts(p) => println!(rt;
+        Some(p) => println!(rt;
             "{} {} {} {} {}",
             p.debtor, p.creditor, p.dbank, p.cbank, p.compensation
         ),
-        PostingsAnswer::OutsideLimits => println!(rt; "outside"),
+        None => println!(rt; "outside"),
     }
 }
 

@@ -5,25 +5,17 @@ ghost use Rattle.model.specs.Checks.{takes};
 ghost use Rattle.model.specs.Deadlines.{kept_due};
 ghost use Rattle.model.specs.Effects.{presented_on, new_collection};
 ghost use Rattle.common.specs.Checks.{judged};
-ghost use Rattle.model.specs.declared.Answer.TheVariants.{Accepted};
 ghost use Rattle.records.specs.Records.{mandate_terms, date_terms, collect_judged, verdict_by, standing_after, Collected};
 
 use crate::mandates::is_live;
 use checking::{Outcome, dated_header, first_failing, found_row, is_found, is_used, none_fails};
 use deadlines::collects::{is_lapsed, is_timely, kept_due};
-use model::{Answer, Presentation};
+use model::Presentation;
 use refusals::Refusal;
 use tables::anew::remade;
 use tables::creditors::bank_of;
 use tables::rows::{mandate_at, put_collection, put_mandate, rows_of};
-use tables::{Collection, Found, Header, Mandate, Standing, State};
-
-// Whether a collect is accepted, and its kept due.
-#[derive(Clone, Copy)]
-enum CollectVerdict {
-    Refuse(Refusal),
-    Go(u64),
-}
+use tables::{Collection, Header, Mandate, Standing, State};
 
 // Whether the mandate takes the sequence code: 0 FRST, 1 RCUR, 2 FNAL, 3 OOFF.
 fn takes_code(m: Mandate, code: u64) -> bool
@@ -44,11 +36,11 @@ fn judge_terms(
     date: u64,
     p: Presentation,
     there: bool,
-    collection: Found,
+    collection: Option<usize>,
     room: bool,
     m: Mandate,
-) -> Answer
-    ensures { result ≡ judged (mandate_terms latest date p there collection room m) Accepted }
+) -> Result<(), Refusal>
+    ensures { result ≡ judged (mandate_terms latest date p there collection room m) (Ok tt) }
 {
     let standing = m.standing;
     let mut tests = none_fails();
@@ -62,9 +54,9 @@ fn judge_terms(
 }
 
 // Refusals 13 and 14 of a collect on the mandate m, whose kept due is `due`.
-fn judge_dates(date: u64, p: Presentation, m: Mandate, due: u64) -> Answer
+fn judge_dates(date: u64, p: Presentation, m: Mandate, due: u64) -> Result<(), Refusal>
     requires { due ≡ kept_due p.requested }
-    ensures { result ≡ judged (date_terms date p m) Accepted }
+    ensures { result ≡ judged (date_terms date p m) (Ok tt) }
 {
     let mut tests = none_fails();
     tests.time = is_timely(date, p.requested);
@@ -73,13 +65,13 @@ fn judge_dates(date: u64, p: Presentation, m: Mandate, due: u64) -> Answer
 }
 
 // The verdict by the dates of a collect on the mandate m.
-fn judge_due(date: u64, p: Presentation, m: Mandate) -> CollectVerdict
-    ensures { result ≡ verdict_by (judged (date_terms date p m) Accepted) (kept_due p.requested) }
+fn judge_due(date: u64, p: Presentation, m: Mandate) -> Result<u64, Refusal>
+    ensures { result ≡ verdict_by (judged (date_terms date p m) (Ok tt)) (kept_due p.requested) }
 {
     let due = kept_due(p.requested);
     match judge_dates(date, p, m, due) {
-        Answer::Refused(r) => CollectVerdict::Refuse(r),
-        Answer::Accepted => CollectVerdict::Go(due),
+        Err(r) => Err(r),
+        Ok(()) => Ok(due),
     }
 }
 
@@ -89,15 +81,15 @@ fn judge_collect(
     date: u64,
     p: Presentation,
     there: bool,
-    collection: Found,
+    collection: Option<usize>,
     room: bool,
     m: Mandate,
-) -> CollectVerdict
+) -> Result<u64, Refusal>
     ensures { result ≡ verdict_by (collect_judged latest date p there collection room m) (kept_due p.requested) }
 {
     match judge_terms(latest, date, p, there, collection, room, m) {
-        Answer::Refused(r) => CollectVerdict::Refuse(r),
-        Answer::Accepted => judge_due(date, p, m),
+        Err(r) => Err(r),
+        Ok(()) => judge_due(date, p, m),
     }
 }
 
@@ -150,8 +142,8 @@ pub fn collect(
     header: Header,
     date: u64,
     p: Presentation,
-    mandate: Found,
-    collection: Found,
+    mandate: Option<usize>,
+    collection: Option<usize>,
     mandates: &mut [u64],
     collections: &mut [u64],
     creditors: &[u64],
@@ -164,15 +156,15 @@ pub fn collect(
     let row = found_row(mandate);
     let m = mandate_at(mandates, row);
     match judge_collect(header.latest, date, p, there, collection, room, m) {
-        CollectVerdict::Refuse(r) => Outcome {
-            answer: Answer::Refused(r),
+        Err(r) => Outcome {
+            answer: Err(r),
             header: header,
         },
-        CollectVerdict::Go(due) => {
+        Ok(due) => {
             put_mandate(mandates, row, presented_on(p, m, due));
             put_collection(collections, used, new_collection(creditors, p, m, due));
             Outcome {
-                answer: Answer::Accepted,
+                answer: Ok(()),
                 header: dated_header(header, date, header.mandates, used + 1),
             }
         }

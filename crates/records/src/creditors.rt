@@ -4,11 +4,11 @@ ghost use Rattle.tables.specs.Ledger.{ledger};
 ghost use Rattle.records.specs.Records.{creditor_answer, CreditorAdded};
 
 use checking::{Outcome, dated_header, first_failing, none_fails};
-use model::Answer;
 use tables::Header;
 use tables::creditors::is_added;
+use refusals::Refusal;
 
-fn judge_creditor(header: Header, date: u64, number: u64, creditors: &[u64]) -> Answer
+fn judge_creditor(header: Header, date: u64, number: u64, creditors: &[u64]) -> Result<(), Refusal>
     ensures { (m c : List ℕ) (cp dp bp : List ℤ) → result ≡ creditor_answer (ledger header m c creditors.now cp dp bp) date number }
 {
     let mut tests = none_fails();
@@ -37,14 +37,14 @@ pub fn add_creditor(
     ensures { (m c : List ℕ) (cp dp bp : List ℤ) → CreditorAdded (ledger header m c creditors.old cp dp bp) date number bank result (ledger result.header m c creditors.new cp dp bp) }
 {
     match judge_creditor(header, date, number, creditors) {
-        Answer::Refused(r) => Outcome {
-            answer: Answer::Refused(r),
+        Err(r) => Outcome {
+            answer: Err(r),
             header: header,
         },
-        Answer::Accepted => {
+        Ok(()) => {
             put_bank(creditors, number, bank);
             Outcome {
-                answer: Answer::Accepted,
+                answer: Ok(()),
                 header: dated_header(header, date, header.mandates, header.collections),
             }
         }

@@ -6,11 +6,12 @@ ghost use Rattle.model.specs.Effects.{changed};
 ghost use Rattle.records.specs.Records.{mandate_answer, MandateAdded, change_judged, MandateChanged};
 
 use checking::{Outcome, dated_header, first_failing, found_row, is_found, is_used, none_fails};
-use model::{Answer, Change};
+use model::Change;
 use tables::anew::remade;
 use tables::creditors::is_added;
 use tables::rows::{mandate_at, put_mandate, rows_of};
-use tables::{Found, Header, Mandate, Standing};
+use tables::{Header, Mandate, Standing};
+use refusals::Refusal;
 
 pub fn is_live(standing: Standing) -> bool
     ensures { result ≡ stands_live standing }
@@ -26,10 +27,10 @@ fn judge_mandate(
     header: Header,
     date: u64,
     m: Mandate,
-    found: Found,
+    found: Option<usize>,
     mandates: &[u64],
     creditors: &[u64],
-) -> Answer
+) -> Result<(), Refusal>
     ensures { (c : List ℕ) (cp dp bp : List ℤ) → result ≡ mandate_answer found (ledger header mandates.now c creditors.now cp dp bp) date m }
 {
     let mut tests = none_fails();
@@ -45,22 +46,22 @@ pub fn add_mandate(
     header: Header,
     date: u64,
     m: Mandate,
-    found: Found,
+    found: Option<usize>,
     mandates: &mut [u64],
     creditors: &[u64],
 ) -> Outcome
     ensures { (c : List ℕ) (cp dp bp : List ℤ) → MandateAdded found (ledger header mandates.old c creditors.now cp dp bp) date m result (ledger result.header mandates.new c creditors.now cp dp bp) }
 {
     match judge_mandate(header, date, m, found, mandates, creditors) {
-        Answer::Refused(r) => Outcome {
-            answer: Answer::Refused(r),
+        Err(r) => Outcome {
+            answer: Err(r),
             header: header,
         },
-        Answer::Accepted => {
+        Ok(()) => {
             let used = header.mandates;
             put_mandate(mandates, used, m);
             Outcome {
-                answer: Answer::Accepted,
+                answer: Ok(()),
                 header: dated_header(header, date, used + 1, header.collections),
             }
         }
@@ -85,7 +86,7 @@ fn judge_change(
     there: bool,
     m: Mandate,
     creditors: &[u64],
-) -> Answer
+) -> Result<(), Refusal>
     ensures { result ≡ change_judged header.latest date change there m creditors.now }
 {
     let standing = m.standing;
@@ -128,7 +129,7 @@ pub fn change_mandate(
     header: Header,
     date: u64,
     change: Change,
-    found: Found,
+    found: Option<usize>,
     mandates: &mut [u64],
     creditors: &[u64],
 ) -> Outcome
@@ -138,14 +139,14 @@ pub fn change_mandate(
     let row = found_row(found);
     let m = mandate_at(mandates, row);
     match judge_change(header, date, change, there, m, creditors) {
-        Answer::Refused(r) => Outcome {
-            answer: Answer::Refused(r),
+        Err(r) => Outcome {
+            answer: Err(r),
             header: header,
         },
-        Answer::Accepted => {
+        Ok(()) => {
             put_mandate(mandates, row, changed_mandate(change, m));
             Outcome {
-                answer: Answer::Accepted,
+                answer: Ok(()),
                 header: dated_header(header, date, header.mandates, header.collections),
             }
         }

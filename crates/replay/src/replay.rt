@@ -11,9 +11,8 @@ use crate::cells::{EVENT_CELLS, event_at};
 use book::acting::{act, find_collection, find_mandate};
 use checking::Outcome;
 use events::Event;
-use events::limits::{Checked, check};
-use model::Answer;
-use opening::{OpenAnswer, OpenOutcome, open_ledger};
+use events::limits::check;
+use opening::{OpenOutcome, open_ledger};
 use tables::Header;
 
 // Any event, given to lent memory that is known to be fit.
@@ -32,11 +31,11 @@ fn take_fit(
         (ledger result.header mandates.new collections.new creditors.new creditor_positions.new debtor_positions.new bank_positions.new) }
 {
     match check(e) {
-        Checked::Refused(r) => Outcome {
-            answer: Answer::Refused(r),
+        Err(r) => Outcome {
+            answer: Err(r),
             header: header,
         },
-        Checked::Within => act(
+        Ok(()) => act(
             header,
             e,
             find_mandate(e, mandates, header.mandates, 0),
@@ -110,7 +109,7 @@ pub fn replay(
         bank_positions,
     );
     let answer = start.answer;
-    let OpenAnswer::Opened = answer else {
+    let Ok(()) = answer else {
         return start;
     };
     let last = run_events(
@@ -124,7 +123,7 @@ pub fn replay(
         bank_positions,
     );
     OpenOutcome {
-        answer: OpenAnswer::Opened,
+        answer: Ok(()),
         header: last,
     }
 }

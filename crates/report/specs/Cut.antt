@@ -1,22 +1,20 @@
 -- Where a line of the input ends. Document 01, "The text line": at a byte 10 and nowhere else. Bytes are numbers.
 -- To cite: proofs/Laws/Cut. Assumes nothing.
-use Rattle.std.specs.Prelude.{Bool, true, false, List, ℕ, ◌-◌, eqb, length, get_or}
+use Rattle.std.specs.Prelude.{Bool, true, false, List, ℕ, ◌-◌, eqb, length, get_or, Option, Some, None}
 use Rattle.common.specs.Walk.{first_from}
 use Rattle.lines.specs.Line.{line_end}
-use Rattle.report.specs.declared.cut.LineEnd.{LineEnd}
-use Rattle.report.specs.declared.cut.LineEnd.TheVariants.{At, NoEnd}
 
 abbrev pub ends_at : List ℕ → ℕ → Bool
 ends_at text i = eqb (get_or text i 0) line_end
 
 -- the first end of a line from a place on; there is none past the last byte
-unfoldable pub end_from : List ℕ → ℕ → LineEnd
-end_from text from = first_from (ends_at text) At NoEnd from (length text - from)
+unfoldable pub end_from : List ℕ → ℕ → Option ℕ
+end_from text from = first_from (ends_at text) Some None from (length text - from)
 
-abbrev pub is_none : LineEnd → Bool
-is_none NoEnd = true
-is_none (At i) = false
+abbrev pub is_none : Option ℕ → Bool
+is_none None = true
+is_none (Some i) = false
 
-abbrev pub is_at : ℕ → LineEnd → Bool
-is_at k NoEnd = false
-is_at k (At i) = eqb i k
+abbrev pub is_at : ℕ → Option ℕ → Bool
+is_at k None = false
+is_at k (Some i) = eqb i k

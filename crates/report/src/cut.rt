@@ -5,13 +5,6 @@ ghost use Rattle.report.specs.Cut.{end_from, is_none, is_at};
 
 use lines::line::{COLUMNS, LINE_END};
 
-// The place of the byte that ends a line.
-#[derive(Clone, Copy)]
-pub enum LineEnd {
-    At(usize),
-    NoEnd,
-}
-
 // The bytes that are looked at together.
 const STEP: usize = 16;
 
@@ -64,25 +57,25 @@ fn skip(text: &[u8], from: usize) -> usize
 }
 
 // The first end of a line from a place on; at last byte by byte.
-fn scan(text: &[u8], from: usize) -> LineEnd
+fn scan(text: &[u8], from: usize) -> Option<usize>
     ensures { result ≡ end_from text.now from }
 {
     let mut i = skip(text, from);
     while i < text.len() {
         if text[i] == LINE_END {
-            return LineEnd::At(i);
+            return Some(i);
         }
         i += 1;
     }
-    LineEnd::NoEnd
+    None
 }
 
 // The first end of a line from a place on; first it is looked for where a sound line has it.
-pub fn line_end(text: &[u8], from: usize) -> LineEnd
+pub fn line_end(text: &[u8], from: usize) -> Option<usize>
     ensures { result ≡ end_from text.now from }
 {
     if ends_soundly(text, from) {
-        return LineEnd::At(from + COLUMNS);
+        return Some(from + COLUMNS);
     }
     scan(text, from)
 }

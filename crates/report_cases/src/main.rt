@@ -2,7 +2,6 @@
 // tests/report_oracle.py works them out.
 #![tactic(auto)]
 
-use report::cut::LineEnd;
 use report::layout::Placed;
 use report::{cut, layout};
 use std::io;
@@ -125,8 +124,8 @@ fn positions(rt: &impl Print) -> io::Result<()> {
 // The place of an end, or that there is none.
 fn end(rt: &impl Print, text: &[u8], from: usize) -> io::Result<()> {
     match cut::line_end(text, from) {
-        LineEnd::At(i) => println!(rt; "{i}"),
-        LineEnd::NoEnd => println!(rt; "none"),
+        Some(i) => println!(rt; "{i}"),
+        None => println!(rt; "none"),
     }
 }
 

@@ -1,14 +1,13 @@
 -- A text by its lines, and what is answered to them: the run said once more, with no byte of it kept back. Document 01, "The text
 -- line" and "The journal". Assumes nothing.
-use Rattle.std.specs.Prelude.{cond, List, [], ◌∷◌, ◌++◌, ℕ, ◌+◌, ◌-◌, eqb, take}
+use Rattle.std.specs.Prelude.{cond, List, [], ◌∷◌, ◌++◌, ℕ, ◌+◌, ◌-◌, eqb, take, Result, Ok, Err}
 use Rattle.events.specs.declared.Event.{Event}
-use Rattle.lines.specs.declared.line.LineAnswer.{LineAnswer}
-use Rattle.lines.specs.declared.line.LineAnswer.TheVariants as lines
 use Rattle.lines.specs.Line.{line_end, read_line}
 use Rattle.tables.specs.Ledger.{Ledger}
 use Rattle.model.specs.Step.{answer_number, Entry, entry}
 use Rattle.report.specs.Layout.{last_number, answer_line}
 use Rattle.run.specs.Run.{answer_to, after_line}
+use Rattle.refusals.specs.declared.Refusal.{Refusal}
 
 -- each byte 10 ends a line; the bytes of a partial one stand before the text
 unfoldable pub lines_from : List ℕ → List ℕ → List (List ℕ)
@@ -31,9 +30,9 @@ abbrev pub last_piece : List ℕ → List ℕ
 last_piece text = last_from [] text
 
 -- the events that the reader takes
-abbrev pub event_in : LineAnswer → List Event
-event_in (lines.Taken e) = e ∷ []
-event_in (lines.Refused r) = []
+abbrev pub event_in : Result Event Refusal → List Event
+event_in (Ok e) = e ∷ []
+event_in (Err r) = []
 
 unfoldable pub events_of : List (List ℕ) → List Event
 events_of [] = []
@@ -50,9 +49,9 @@ answers_output n [] = []
 answers_output n (a ∷ rest) = answer_line (n + 1) a ++ answers_output (n + 1) rest
 
 -- the history that lines and numbers tell: an event whose number is 0 was accepted
-abbrev pub entry_in : LineAnswer → ℕ → List Entry
-entry_in (lines.Taken e) a = entry e (eqb a 0) ∷ []
-entry_in (lines.Refused r) a = []
+abbrev pub entry_in : Result Event Refusal → ℕ → List Entry
+entry_in (Ok e) a = entry e (eqb a 0) ∷ []
+entry_in (Err r) a = []
 
 unfoldable pub history_of : List (List ℕ) → List ℕ → List Entry
 history_of [] answers = []

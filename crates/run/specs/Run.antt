@@ -1,33 +1,31 @@
 -- The run of the program `ledger`: the bytes of its input one after the other, and what it writes. Document 01, "The text line".
 -- What the lines of a text and the pieces that an input comes in have to do with it: specs/Promises. Assumes nothing.
-use Rattle.std.specs.Prelude.{Bool, cond, ◌&&◌, List, [], ◌∷◌, ◌++◌, ℕ, zero, suc, ◌+◌, eqb, ltb, ℤ, pos, negsuc, take, length}
+use Rattle.std.specs.Prelude.{Bool, cond, ◌&&◌, List, [], ◌∷◌, ◌++◌, ℕ, zero, suc, ◌+◌, eqb, ltb, ℤ, pos, negsuc, take, length, Result, Ok, Err}
+use Rattle.refusals.specs.declared.Refusal.{Refusal}
 use Rattle.refusals.specs.Refusals.{number_of}
 use Rattle.refusals.specs.declared.Refusal.TheVariants.{BadLine, UnfitMemory}
-use Rattle.lines.specs.declared.line.LineAnswer.{LineAnswer}
-use Rattle.lines.specs.declared.line.LineAnswer.TheVariants as lines
 use Rattle.lines.specs.Line.{line_end, line_length, read_line}
 use Rattle.tables.specs.Limits.{creditor_count, debtor_count, bank_count}
 use Rattle.tables.specs.Ledger.{Ledger}
-use Rattle.model.specs.declared.Answer.{Answer}
-use Rattle.model.specs.declared.Answer.TheVariants.{Accepted, Refused}
 use Rattle.model.specs.Step.{answer_number, answer, after, figure_of}
 use Rattle.model.specs.Journal.{Journal, figure_in}
 use Rattle.report.specs.Layout.{last_number, answer_line, position_line}
+use Rattle.events.specs.declared.Event.{Event}
 
 -- ---- a line: what the reader refuses, or what the ledger answers to the event
 
-abbrev pub answer_to : Ledger → LineAnswer → Answer
-answer_to l (lines.Taken e) = answer l e
-answer_to l (lines.Refused r) = Refused r
+abbrev pub answer_to : Ledger → Result Event Refusal → Result Unit Refusal
+answer_to l (Ok e) = answer l e
+answer_to l (Err r) = Err r
 
-abbrev pub after_line : Ledger → LineAnswer → Ledger
-after_line l (lines.Taken e) = after l e
-after_line l (lines.Refused r) = l
+abbrev pub after_line : Ledger → Result Event Refusal → Ledger
+after_line l (Ok e) = after l e
+after_line l (Err r) = l
 
 -- ---- a call: accepted where lent memory fits, else refused with 2
 
-abbrev pub fit_answer : Bool → Answer
-fit_answer fits = cond fits Accepted (Refused UnfitMemory)
+abbrev pub fit_answer : Bool → Result Unit Refusal
+fit_answer fits = cond fits (Ok tt) (Err UnfitMemory)
 
 abbrev pub fit_number : Bool → ℕ
 fit_number fits = cond fits 0 (number_of UnfitMemory)

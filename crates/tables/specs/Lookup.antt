@@ -1,9 +1,7 @@
 -- Lookup by number. Document 01, "What is refused": "Where unfit use left two rows of one number, the lowest row counts."
 -- To cite: proofs/Laws/Lookup. Assumes nothing.
-use Rattle.std.specs.Prelude.{◌≡◌, Bool, cond, List, ℕ, ◌-◌, ◌*◌, eqb, ltb, get_or}
+use Rattle.std.specs.Prelude.{◌≡◌, Bool, cond, List, ℕ, ◌-◌, ◌*◌, eqb, ltb, get_or, Option, Some, None}
 use Rattle.common.specs.Walk.{first_from}
-use Rattle.tables.specs.declared.Found.{Found}
-use Rattle.tables.specs.declared.Found.TheVariants.{At, Nothing}
 use Rattle.tables.specs.Limits.{stride}
 use Rattle.tables.specs.Rows.{rows}
 
@@ -19,12 +17,12 @@ abbrev pub existing : List ℕ → ℕ → ℕ
 existing cells used = cond (ltb used (rows cells)) used (rows cells)
 
 -- the lowest used row of the number
-unfoldable pub lookup : List ℕ → ℕ → ℕ → Found
-lookup cells used number = first_from (number_is cells number) At Nothing 0 (existing cells used)
+unfoldable pub lookup : List ℕ → ℕ → ℕ → Option ℕ
+lookup cells used number = first_from (number_is cells number) Some None 0 (existing cells used)
 
 -- the lowest used row of the number from a row on
-unfoldable pub lookup_since : List ℕ → ℕ → ℕ → ℕ → Found
-lookup_since cells used number since = first_from (number_is cells number) At Nothing since (existing cells used - since)
+unfoldable pub lookup_since : List ℕ → ℕ → ℕ → ℕ → Option ℕ
+lookup_since cells used number since = first_from (number_is cells number) Some None since (existing cells used - since)
 
 -- no row before it has the number: the lookup may start there
 abbrev pub MayStart : List ℕ → ℕ → ℕ → ℕ → Type 0

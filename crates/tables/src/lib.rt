@@ -69,9 +69,3 @@ pub struct Collection {
     pub state: State,
 }
 
-// The row of a number.
-#[derive(Clone, Copy)]
-pub enum Found {
-    At(usize),
-    Nothing,
-}

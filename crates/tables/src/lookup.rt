@@ -1,11 +1,9 @@
 // Lookup by number: specs/Lookup.
 ghost use Rattle.std.specs.Prelude.{◌||◌, ◌≡◌, ℕ, ◌+◌, ◌-◌, ◌≤◌, ◌<◌};
 ghost use Rattle.common.specs.Walk.{first_from};
-ghost use Rattle.tables.specs.declared.Found.TheVariants.{At, Nothing};
 ghost use Rattle.tables.specs.Lookup.{number_is, existing, lookup, lookup_since};
 ghost use Rattle.tables.specs.Rows.{rows};
 
-use crate::Found;
 use crate::rows::STRIDE;
 
 // The used rows that there are.
@@ -32,7 +30,7 @@ fn in_four(cells: &[u64], row: usize, number: u64) -> bool
 // it is does not matter: the walk from each of them has one answer.
 fn skip(cells: &[u64], from: usize, n: usize, number: u64) -> usize
     requires { (from ≤ n) × (n ≤ rows cells.now) }
-    ensures { first_from (number_is cells.now number) At Nothing result (n - result) ≡ first_from (number_is cells.now number) At Nothing from (n - from) }
+    ensures { first_from (number_is cells.now number) Some None result (n - result) ≡ first_from (number_is cells.now number) Some None from (n - from) }
 {
     let mut i = from;
     while 8 <= n - i {
@@ -45,37 +43,37 @@ fn skip(cells: &[u64], from: usize, n: usize, number: u64) -> usize
 }
 
 // The lowest row of the number from a row on, below n.
-fn find_from(cells: &[u64], from: usize, n: usize, number: u64) -> Found
+fn find_from(cells: &[u64], from: usize, n: usize, number: u64) -> Option<usize>
     requires { n ≤ rows cells.now }
-    ensures { result ≡ first_from (number_is cells.now number) At Nothing from (n - from) }
+    ensures { result ≡ first_from (number_is cells.now number) Some None from (n - from) }
 {
     let mut i = from;
     while i < n {
         if cells[i * STRIDE] == number {
-            return Found::At(i);
+            return Some(i);
         }
         i += 1;
     }
-    Found::Nothing
+    None
 }
 
 // The lowest used row of a number from a row on, in either table. That row is looked at first.
-pub fn find_since(cells: &[u64], used: usize, number: u64, since: usize) -> Found
+pub fn find_since(cells: &[u64], used: usize, number: u64, since: usize) -> Option<usize>
     ensures { result ≡ lookup_since cells.now used number since }
 {
     let n = existing_of(cells, used);
     if n <= since {
-        return Found::Nothing;
+        return None;
     }
     if cells[since * STRIDE] == number {
-        return Found::At(since);
+        return Some(since);
     }
     let from = skip(cells, since, n, number);
     find_from(cells, from, n, number)
 }
 
 // The lowest used row of a number, in either table.
-pub fn find(cells: &[u64], used: usize, number: u64) -> Found
+pub fn find(cells: &[u64], used: usize, number: u64) -> Option<usize>
     ensures { result ≡ lookup cells.now used number }
 {
     find_since(cells, used, number, 0)

@@ -4,14 +4,12 @@
 #![tactic(auto)]
 
 use fitness::fitness::is_fit;
-use opening::{OpenAnswer, open_ledger};
+use opening::open_ledger;
 use refusals::{Refusal, number_of};
 use std::io;
 use tables::lookup::find;
 use tables::rows::{STRIDE, put_collection, put_mandate};
-use tables::{
-    Collection, Found, Header, Mandate, Standing, State, Undoing, collection_column, mandate_column,
-};
+use tables::{Collection, Header, Mandate, Standing, State, Undoing, collection_column, mandate_column};
 
 // The rows of the tables of the cases.
 const MANDATES: usize = 3;
@@ -602,8 +600,8 @@ fn lookup_case(
     number: u64,
 ) -> io::Result<()> {
     match find(cells, used, number) {
-        Found::At(row) => line(rt, name, row as u64),
-        Found::Nothing => line(rt, name, 9),
+        Some(row) => line(rt, name, row as u64),
+        None => line(rt, name, 9),
     }
 }
 
@@ -619,10 +617,10 @@ fn lookups(rt: &impl Print) -> io::Result<()> {
 }
 
 // The answer to an opening: 0 where it was done.
-fn opened(a: OpenAnswer) -> u64 {
+fn opened(a: Result<(), Refusal>) -> u64 {
     match a {
-        OpenAnswer::Opened => 0,
-        OpenAnswer::Refused(r) => number_of(r),
+        Ok(()) => 0,
+        Err(r) => number_of(r),
     }
 }
 

@@ -1,15 +1,13 @@
 -- A text of events: the call for a piece of the program's input, against the run of crates/run/specs/Run.
 -- Assumes nothing.
-use Rattle.std.specs.Prelude.{◌≡◌, Bool, true, cond, ◌&&◌, List, [], ℕ, ◌+◌, ◌*◌, ◌/◌, ◌≤◌, leb, length, take, drop}
+use Rattle.std.specs.Prelude.{◌≡◌, Bool, true, cond, ◌&&◌, List, [], ℕ, ◌+◌, ◌*◌, ◌/◌, ◌≤◌, leb, length, take, drop, Ok, Err}
 use Rattle.refusals.specs.declared.Refusal.TheVariants.{UnfitMemory}
 use Rattle.events.specs.declared.Event.{Event}
-use Rattle.events.specs.declared.limits.Checked.TheVariants.{Within}
 use Rattle.events.specs.Limits.{checked}
 use Rattle.digits.specs.Field.{pasted}
 use Rattle.lines.specs.Line.{read_line}
 use Rattle.tables.specs.declared.Header.{Header}
 use Rattle.tables.specs.Ledger.{Ledger}
-use Rattle.model.specs.declared.Answer.TheVariants.{Refused}
 use Rattle.model.specs.Step.{answer_number}
 use Rattle.index.specs.Index.{Indexed}
 use Rattle.model.specs.Bounds.{Safe}
@@ -34,7 +32,7 @@ WhenPrepared prepared mandateIndex collectionIndex l = prepared ≡ true → Pre
 -- an event that was read, given to the ledger l
 pub record Sound (prepared : Bool) (mandateIndex collectionIndex : List ℕ) (l : Ledger) (e : Event) : Type 0 where
   pub tested : WhenPrepared prepared mandateIndex collectionIndex l
-  pub is_within : checked e ≡ Within
+  pub is_within : checked e ≡ (Ok tt)
 
 -- the line given to the ledger l: the answer, and the ledger l' after it
 pub record LineTaken (l : Ledger) (line : List ℕ) (r : Outcome) (l' : Ledger) : Type 0 where
@@ -68,7 +66,7 @@ pub record LinesAnswered (s : Run) (text out : List ℕ) (r : Lines) (l' : Ledge
 -- ---- the call
 
 abbrev pub unfit_piece : Header → ℕ → ℕ → Piece
-unfit_piece h lines filled = record { answer = Refused UnfitMemory; header = h; lines = lines; partial = filled; written = 0 }
+unfit_piece h lines filled = record { answer = Err UnfitMemory; header = h; lines = lines; partial = filled; written = 0 }
 
 -- where lent text and buffer fit, the run comes to s and writes the bytes t to the buffer; else nothing changes
 pub record Advanced (fits : Bool) (l : Ledger) (lines filled : ℕ) (out : List ℕ) (s : Run) (t : List ℕ) (r : Piece) (l' : Ledger) (out' : List ℕ) : Type 0 where

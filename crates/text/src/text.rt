@@ -15,13 +15,11 @@ ghost use Rattle.text.specs.Text.{Sound, WhenPrepared, LineTaken, AnswerRoom, Li
 use book::acting::{act, find_collection, find_mandate};
 use checking::Outcome;
 use events::Event;
-use events::limits::Checked;
 use fitness::fitness::is_fit;
 use index::{INDEX, first_row, index_rows};
 use lines::line::{COLUMNS, FIELDS, event_in, read_cells};
-use model::Answer;
 use refusals::{Refusal, number_of};
-use report::cut::{LineEnd, line_end};
+use report::cut::line_end;
 use report::layout::{ANSWER, LAST_NUMBER, answer_line};
 use safety::is_safe;
 use tables::Header;
@@ -54,16 +52,16 @@ pub struct Piece {
     pub lines: u64,
     pub partial: usize,
     pub written: usize,
-    pub answer: Answer,
+    pub answer: Result<(), Refusal>,
 }
 
 // The number of an answer: 0 where the event is accepted.
-pub fn answer_number(answer: Answer) -> u64
+pub fn answer_number(answer: Result<(), Refusal>) -> u64
     ensures { result ≡ answer_number answer }
 {
     match answer {
-        Answer::Accepted => 0,
-        Answer::Refused(r) => number_of(r),
+        Ok(()) => 0,
+        Err(r) => number_of(r),
     }
 }
 
@@ -134,7 +132,7 @@ fn take_sound(
         bank_positions,
     ) {
         return Outcome {
-            answer: Answer::Refused(Refusal::UnfitMemory),
+            answer: Err(Refusal::UnfitMemory),
             header: header,
         };
     }
@@ -174,11 +172,11 @@ fn take_line(
 {
     let mut cells = [0; FIELDS];
     match read_cells(line, &mut cells) {
-        Checked::Refused(r) => Outcome {
-            answer: Answer::Refused(r),
+        Err(r) => Outcome {
+            answer: Err(r),
             header: header,
         },
-        Checked::Within => take_sound(
+        Ok(()) => take_sound(
             prepared,
             header,
             event_in(&cells),
@@ -269,7 +267,7 @@ fn take_lines(
     };
     let mut at: usize = 0;
     while at < text.len() {
-        let LineEnd::At(k) = line_end(text, at) else {
+        let Some(k) = line_end(text, at) else {
             let last = p.header;
             return Lines {
                 header: last,
@@ -338,7 +336,7 @@ fn unfit(header: Header, lines: u64, filled: usize) -> Piece
     ensures { result ≡ unfit_piece header lines filled }
 {
     Piece {
-        answer: Answer::Refused(Refusal::UnfitMemory),
+        answer: Err(Refusal::UnfitMemory),
         header: header,
         lines: lines,
         partial: filled,
@@ -397,7 +395,7 @@ pub fn take_text(
     let at = done.at;
     let partial = keep_partial(text, at, filled);
     Piece {
-        answer: Answer::Accepted,
+        answer: Ok(()),
         header: after,
         lines: done.lines,
         partial: partial,

@@ -1,28 +1,20 @@
 -- Events 6 to 10 by the row that was found of the collection: refusals 6 to 17 that concern them, in checking order, what is to be posted,
 -- and the ledger where it is. That they are the model's on a fit ledger where the row is that of the number: `treat_ruled` of
 -- proofs/Laws/Ready. Assumes nothing.
-use Rattle.std.specs.Prelude.{Bool, cond, List, [], ◌∷◌, ◌++◌, ℕ, leb, ℤ, ◌+ℤ◌}
+use Rattle.std.specs.Prelude.{Bool, cond, List, [], ◌∷◌, ◌++◌, ℕ, leb, ℤ, ◌+ℤ◌, Option, Some, None, Result, Ok, Err}
 use Rattle.common.specs.Tests.{all_of}
 use Rattle.common.specs.Checks.{Check, check, judged}
+use Rattle.refusals.specs.declared.Refusal.{Refusal}
 use Rattle.refusals.specs.declared.Refusal.TheVariants.{UnfitMemory, BeforeLatest, NotBusinessDay, DoesNotExist, WrongState, BeforeDue, AfterLastDay}
 use Rattle.calendar.specs.Periods.{days_between}
-use Rattle.calendar.specs.declared.DaysAnswer.{DaysAnswer}
-use Rattle.calendar.specs.declared.DaysAnswer.TheVariants.{Days, NoDays}
 use Rattle.positions.specs.Positions.{position_limit, has_entry, position, in_limit}
 use Rattle.positions.specs.Compensation.{compensation_of}
 use Rattle.positions.specs.Answers.{settlement_of, reversed_of, refunded_of}
-use Rattle.positions.specs.declared.CompensationAnswer.{CompensationAnswer}
-use Rattle.positions.specs.declared.CompensationAnswer.TheVariants.{Cents, OutsideLimits as NoCents}
 use Rattle.positions.specs.declared.Postings.{Postings}
-use Rattle.positions.specs.declared.PostingsAnswer.{PostingsAnswer}
-use Rattle.positions.specs.declared.PostingsAnswer.TheVariants.{Amounts, OutsideLimits}
 use Rattle.tables.specs.declared.Header.{Header}
 use Rattle.tables.specs.declared.Collection.{Collection}
-use Rattle.tables.specs.declared.Found.{Found}
 use Rattle.tables.specs.Ledger.{Ledger}
 use Rattle.tables.specs.Rows.{collection_at}
-use Rattle.model.specs.declared.Answer.{Answer}
-use Rattle.model.specs.declared.Answer.TheVariants.{Accepted, Refused}
 use Rattle.model.specs.declared.Way.{Way}
 use Rattle.model.specs.declared.Way.TheVariants.{ByReturn, ByRefund, ByReversal}
 use Rattle.model.specs.declared.Treatment.{Treatment}
@@ -33,38 +25,39 @@ use Rattle.checking.specs.declared.Outcome.{Outcome}
 use Rattle.checking.specs.Calls.{used_row, found_row, Done}
 use Rattle.treatments.specs.declared.verdicts.Verdict.{Verdict}
 use Rattle.treatments.specs.declared.verdicts.Verdict.TheVariants.{Refuse, Mark, Post}
+use Rattle.calendar.specs.declared.CalendarDays.{CalendarDays}
 
 -- ---- refusals 6 to 17, of the collection k, which is there or not
 
-abbrev pub first_checks : ℕ → ℕ → Treatment → Bool → Collection → List (Check Answer)
+abbrev pub first_checks : ℕ → ℕ → Treatment → Bool → Collection → List (Check (Result Unit Refusal))
 first_checks latest date t there k =
-    check (leb latest date) (Refused BeforeLatest)
-    ∷ check (day_treated t date) (Refused NotBusinessDay)
-    ∷ check there (Refused DoesNotExist)
-    ∷ check (state_fits t k.state) (Refused WrongState)
-    ∷ check (due_treated t k.due date) (Refused BeforeDue)
+    check (leb latest date) (Err BeforeLatest)
+    ∷ check (day_treated t date) (Err NotBusinessDay)
+    ∷ check there (Err DoesNotExist)
+    ∷ check (state_fits t k.state) (Err WrongState)
+    ∷ check (due_treated t k.due date) (Err BeforeDue)
     ∷ []
 
-abbrev pub last_checks : ℕ → Treatment → Collection → List (Check Answer)
-last_checks date t k = check (time_treated t k.state date) (Refused AfterLastDay) ∷ []
+abbrev pub last_checks : ℕ → Treatment → Collection → List (Check (Result Unit Refusal))
+last_checks date t k = check (time_treated t k.state date) (Err AfterLastDay) ∷ []
 
-abbrev pub treat_checks : ℕ → ℕ → Treatment → Bool → Collection → List (Check Answer)
+abbrev pub treat_checks : ℕ → ℕ → Treatment → Bool → Collection → List (Check (Result Unit Refusal))
 treat_checks latest date t there k = first_checks latest date t there k ++ last_checks date t k
 
-abbrev pub treat_judged : ℕ → ℕ → Treatment → Bool → Collection → Answer
-treat_judged latest date t there k = judged (treat_checks latest date t there k) Accepted
+abbrev pub treat_judged : ℕ → ℕ → Treatment → Bool → Collection → Result Unit Refusal
+treat_judged latest date t there k = judged (treat_checks latest date t there k) (Ok tt)
 
 -- ---- what an undoing posts, for any numbers
 
-abbrev pub refund_for : ℕ → CompensationAnswer → PostingsAnswer
-refund_for amount (Cents cents) = refunded_of amount cents
-refund_for amount NoCents = OutsideLimits
+abbrev pub refund_for : ℕ → Option ℕ → Option Postings
+refund_for amount (Some cents) = refunded_of amount cents
+refund_for amount None = None
 
-abbrev pub refund_after : ℕ → ℕ → DaysAnswer → PostingsAnswer
-refund_after amount rate (Days days) = refund_for amount (compensation_of amount rate days.0)
-refund_after amount rate NoDays = OutsideLimits
+abbrev pub refund_after : ℕ → ℕ → Option CalendarDays → Option Postings
+refund_after amount rate (Some days) = refund_for amount (compensation_of amount rate days.0)
+refund_after amount rate None = None
 
-abbrev pub undone_of : Way → ℕ → ℕ → ℕ → PostingsAnswer
+abbrev pub undone_of : Way → ℕ → ℕ → ℕ → Option Postings
 undone_of ByReturn amount settled date = reversed_of amount
 undone_of (ByRefund rate code) amount settled date = refund_after amount rate (days_between settled date)
 undone_of ByReversal amount settled date = reversed_of amount
@@ -72,9 +65,9 @@ undone_of ByReversal amount settled date = reversed_of amount
 -- ---- the verdict
 
 -- amounts outside their limits are those of no fit row and no rate within its limit
-abbrev pub post_verdict : Collection → PostingsAnswer → Verdict
-post_verdict k (Amounts p) = Post k p
-post_verdict k OutsideLimits = Refuse UnfitMemory
+abbrev pub post_verdict : Collection → Option Postings → Verdict
+post_verdict k (Some p) = Post k p
+post_verdict k None = Refuse UnfitMemory
 
 -- on the collection k, where no test refuses
 abbrev pub go_verdict : Treatment → ℕ → Collection → Verdict
@@ -83,9 +76,9 @@ go_verdict Reject date k = Mark (treated Reject date k)
 go_verdict (Undo way) date k =
     post_verdict (treated (Undo way) date k) (undone_of way k.amount (settled_on k.state) date)
 
-abbrev pub by_answer : Answer → Verdict → Verdict
-by_answer Accepted v = v
-by_answer (Refused r) v = Refuse r
+abbrev pub by_answer : Result Unit Refusal → Verdict → Verdict
+by_answer (Ok tt) v = v
+by_answer (Err r) v = Refuse r
 
 abbrev pub verdict_on : ℕ → ℕ → Treatment → Bool → Collection → Verdict
 verdict_on latest date t there k = by_answer (treat_judged latest date t there k) (go_verdict t date k)
@@ -113,18 +106,18 @@ postable k p total creditor_positions debtor_positions bank_positions =
     ∷ in_limit position_limit p.compensation
     ∷ [])
 
-abbrev pub pay_answer : Collection → Postings → Ledger → Answer
+abbrev pub pay_answer : Collection → Postings → Ledger → Result Unit Refusal
 pay_answer k p l =
     cond (postable k p l.compensation l.creditor_positions l.debtor_positions l.bank_positions)
-    Accepted
-    (Refused UnfitMemory)
+    (Ok tt)
+    (Err UnfitMemory)
 
 abbrev pub pay_effect : ℕ → ℕ → Collection → Postings → Ledger → Ledger
 pay_effect row date k p l = with_postings (keep_collection (dated l date) row k) k p
 
-abbrev pub answer_for : Verdict → Ledger → Answer
-answer_for (Refuse r) l = Refused r
-answer_for (Mark k) l = Accepted
+abbrev pub answer_for : Verdict → Ledger → Result Unit Refusal
+answer_for (Refuse r) l = Err r
+answer_for (Mark k) l = (Ok tt)
 answer_for (Post k p) l = pay_answer k p l
 
 abbrev pub effect_for : Verdict → ℕ → ℕ → Ledger → Ledger
@@ -143,10 +136,10 @@ header_after h date cents = record {
 
 -- ---- the call
 
-abbrev pub verdict_at : Found → Ledger → ℕ → Treatment → Verdict
+abbrev pub verdict_at : Option ℕ → Ledger → ℕ → Treatment → Verdict
 verdict_at found l date t =
     verdict_on l.latest date t (used_row l.collections l.collections_used found) (collection_at l.collections (found_row found))
 
-abbrev pub Treated : Found → Ledger → ℕ → Treatment → Outcome → Ledger → Type 0
+abbrev pub Treated : Option ℕ → Ledger → ℕ → Treatment → Outcome → Ledger → Type 0
 Treated found l date t r l' =
     Done (answer_for (verdict_at found l date t) l) l (effect_for (verdict_at found l date t) (found_row found) date l) r l'

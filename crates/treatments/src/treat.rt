@@ -7,12 +7,12 @@ ghost use Rattle.treatments.specs.Treatments.{held, postable, header_after, pay_
 
 use crate::verdicts::{Verdict, verdict_on};
 use checking::{Outcome, dated_header, found_row, is_used};
-use model::{Answer, Treatment};
+use model::Treatment;
 use positions::Postings;
 use positions::posting::{in_limit, is_entry, position_of, post};
 use refusals::Refusal;
 use tables::rows::{collection_at, put_collection};
-use tables::{Collection, Found, Header};
+use tables::{Collection, Header};
 
 // Whether an amount can be posted to a number.
 fn is_held(positions: &[i64], number: u64, amount: i64) -> bool
@@ -100,7 +100,7 @@ fn pay(
         bank_positions,
     ) {
         return Outcome {
-            answer: Answer::Refused(Refusal::UnfitMemory),
+            answer: Err(Refusal::UnfitMemory),
             header: header,
         };
     }
@@ -116,7 +116,7 @@ fn pay(
         bank_positions,
     );
     Outcome {
-        answer: Answer::Accepted,
+        answer: Ok(()),
         header: after,
     }
 }
@@ -126,7 +126,7 @@ pub fn treat(
     header: Header,
     date: u64,
     t: Treatment,
-    found: Found,
+    found: Option<usize>,
     collections: &mut [u64],
     creditor_positions: &mut [i64],
     debtor_positions: &mut [i64],
@@ -144,13 +144,13 @@ pub fn treat(
         collection_at(collections, row),
     ) {
         Verdict::Refuse(r) => Outcome {
-            answer: Answer::Refused(r),
+            answer: Err(r),
             header: header,
         },
         Verdict::Mark(k) => {
             put_collection(collections, row, k);
             Outcome {
-                answer: Answer::Accepted,
+                answer: Ok(()),
                 header: dated_header(header, date, header.mandates, header.collections),
             }
         }

@@ -3,28 +3,26 @@ ghost use Rattle.std.specs.Prelude.{◌≡◌};
 ghost use Rattle.calendar.specs.Periods.{days_between};
 ghost use Rattle.treatments.specs.Treatments.{refund_after, undone_of};
 
-use calendar::DaysAnswer;
 use calendar::periods::days_between;
 use model::Way;
 use positions::amounts::{refunded, reversed};
 use positions::compensation::compensation;
-use positions::{CompensationAnswer, PostingsAnswer};
 
 // The postings of a refund, with its compensation.
-fn refund(amount: u64, rate: u64, settled: u64, date: u64) -> PostingsAnswer
+fn refund(amount: u64, rate: u64, settled: u64, date: u64) -> Option<Postings>
     ensures { result ≡ refund_after amount rate (days_between settled date) }
 {
-    let DaysAnswer::Days(days) = days_between(settled, date) else {
-        return PostingsAnswer::OutsideLimits;
+    let Some(days) = days_between(settled, date) else {
+        return None;
     };
-    let CompensationAnswer::Cents(cents) = compensation(amount, rate, days.0) else {
-        return PostingsAnswer::OutsideLimits;
+    let Some(cents) = compensation(amount, rate, days.0) else {
+        return None;
     };
     refunded(amount, cents)
 }
 
 // The postings of an undoing.
-pub fn undone(way: Way, amount: u64, settled: u64, date: u64) -> PostingsAnswer
+pub fn undone(way: Way, amount: u64, settled: u64, date: u64) -> Option<Postings>
     ensures { result ≡ undone_of way amount settled date }
 {
     match way {

@@ -3,16 +3,15 @@ ghost use Rattle.std.specs.Prelude.{◌≡◌};
 ghost use Rattle.model.specs.Checks.{is_presented, is_settled, settled_on, day_treated, state_fits, due_treated, time_treated};
 ghost use Rattle.model.specs.Effects.{undoing_of as undoingIn, state_after, treated as treatedBy};
 ghost use Rattle.common.specs.Checks.{judged};
-ghost use Rattle.model.specs.declared.Answer.TheVariants.{Accepted};
 ghost use Rattle.treatments.specs.Treatments.{first_checks, last_checks, treat_judged, post_verdict, go_verdict, verdict_on};
 
 use crate::undoing::undone;
 use calendar::target::is_business_day;
 use checking::{first_failing, none_fails};
 use deadlines::undoings::is_in_time;
-use model::{Answer, Treatment, Way};
+use model::{Treatment, Way};
 use positions::amounts::settlement;
-use positions::{Postings, PostingsAnswer};
+use positions::Postings;
 use refusals::Refusal;
 use tables::anew::with_state;
 use tables::{Collection, State, Undoing};
@@ -131,8 +130,8 @@ fn treated(t: Treatment, date: u64, k: Collection) -> Collection
 }
 
 // Refusals 6 to 16, of the collection in the row that was found.
-fn judge_first(latest: u64, date: u64, t: Treatment, there: bool, k: Collection) -> Answer
-    ensures { result ≡ judged (first_checks latest date t there k) Accepted }
+fn judge_first(latest: u64, date: u64, t: Treatment, there: bool, k: Collection) -> Result<(), Refusal>
+    ensures { result ≡ judged (first_checks latest date t there k) (Ok tt) }
 {
     let s = k.state;
     let mut tests = none_fails();
@@ -145,8 +144,8 @@ fn judge_first(latest: u64, date: u64, t: Treatment, there: bool, k: Collection)
 }
 
 // Refusal 17.
-fn judge_last(date: u64, t: Treatment, k: Collection) -> Answer
-    ensures { result ≡ judged (last_checks date t k) Accepted }
+fn judge_last(date: u64, t: Treatment, k: Collection) -> Result<(), Refusal>
+    ensures { result ≡ judged (last_checks date t k) (Ok tt) }
 {
     let s = k.state;
     let mut tests = none_fails();
@@ -155,22 +154,22 @@ fn judge_last(date: u64, t: Treatment, k: Collection) -> Answer
 }
 
 // Refusals 6 to 17. The last day is worked out only where nothing refuses before.
-fn judge(latest: u64, date: u64, t: Treatment, there: bool, k: Collection) -> Answer
+fn judge(latest: u64, date: u64, t: Treatment, there: bool, k: Collection) -> Result<(), Refusal>
     ensures { result ≡ treat_judged latest date t there k }
 {
     match judge_first(latest, date, t, there, k) {
-        Answer::Refused(r) => Answer::Refused(r),
-        Answer::Accepted => judge_last(date, t, k),
+        Err(r) => Err(r),
+        Ok(()) => judge_last(date, t, k),
     }
 }
 
 // The verdict to post; no row of a fit table has amounts outside their limits, at a rate within its own.
-fn post_verdict(k: Collection, p: PostingsAnswer) -> Verdict
+fn post_verdict(k: Collection, p: Option<Postings>) -> Verdict
     ensures { result ≡ post_verdict k p }
 {
     match p {
-        PostingsAnswer::Amounts(amounts) => Verdict::Post(k, amounts),
-        PostingsAnswer::OutsideLimits => Verdict::Refuse(Refusal::UnfitMemory),
+        Some(amounts) => Verdict::Post(k, amounts),
+        None => Verdict::Refuse(Refusal::UnfitMemory),
     }
 }
 
@@ -192,7 +191,7 @@ pub fn verdict_on(latest: u64, date: u64, t: Treatment, there: bool, k: Collecti
     ensures { result ≡ verdict_on latest date t there k }
 {
     match judge(latest, date, t, there, k) {
-        Answer::Refused(r) => Verdict::Refuse(r),
-        Answer::Accepted => go_verdict(t, date, k),
+        Err(r) => Verdict::Refuse(r),
+        Ok(()) => go_verdict(t, date, k),
     }
 }

@@ -1,5 +1,6 @@
 -- Every kind of event is accepted with each of its codes: the answers are computed; so is, for each kind up to 10 and each code
 -- up to 3, that it is listed if the limits know it. To cite: `every_kind`. Assumes nothing.
+use Rattle.std.proofs.Common.{None, Ok, Option, Some}
 use mathlib.Core.Path.{◌≡◌, refl, ap}
 use mathlib.Core.Bool.{Bool, true, false, not, ◌&&◌, ◌||◌}
 use mathlib.Core.List.{List, [], ◌∷◌}
@@ -12,9 +13,6 @@ use Rattle.common.proofs.Every.{both, both_left, both_right, every, below}
 use Rattle.common.proofs.Tests.{never, and_halves, true_or_false}
 use Rattle.events.specs.declared.Event.{Event}
 use Rattle.events.specs.declared.limits.Row.{Row}
-use Rattle.events.specs.declared.limits.RowAnswer.{RowAnswer}
-use Rattle.events.specs.declared.limits.RowAnswer.TheVariants.{Found, NoRow}
-use Rattle.events.specs.declared.limits.Checked.TheVariants.{Within}
 use Rattle.events.specs.Limits.{within, table, row_in, row_of, checked}
 use Rattle.events.proofs.Laws.Limits.{checked_facts}
 use Rattle.witness.specs.Opening.{lent}
@@ -23,9 +21,9 @@ use Rattle.witness.proofs.Ruled.{ruled_answers, lent_sizes, opened_answers}
 
 -- ---- no other kind and code is within limits
 
-abbrev is_row : RowAnswer → Bool
-is_row NoRow = false
-is_row (Found r) = true
+abbrev is_row : Option Row → Bool
+is_row None = false
+is_row (Some r) = true
 
 -- no row has a code above 3
 abbrev low_codes : List Row → Bool
@@ -60,7 +58,7 @@ by_row true true t h = refl
 by_row true false t h = absurd t
 by_row false listed t h = absurd (never h refl)
 
-complete : (e : Event) → checked e ≡ Within → is_in sorts (sort_of e) ≡ true
+complete : (e : Event) → checked e ≡ (Ok tt) → is_in sorts (sort_of e) ≡ true
 unfolding listed? row_of
 complete e w =
     let m = checked_facts e w in

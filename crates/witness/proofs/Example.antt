@@ -1,5 +1,6 @@
 -- The example of document 01 holds: the input is read and its events are answered by computing, and the positions after them are
 -- figures of the journal, which is fed the events and these answers. To cite: `example`. Assumes nothing.
+use Rattle.std.proofs.Common.{Ok, Result}
 use mathlib.Core.Path.{◌≡◌, refl, ap, ◌∙◌}
 use mathlib.Core.Bool.{true, false, ◌&&◌}
 use mathlib.Core.List.{List, [], ◌∷◌, ◌++◌}
@@ -14,14 +15,12 @@ use Rattle.common.proofs.Tests.{and_halves, and_true, true_or_false}
 use Rattle.calendar.specs.Gregorian.{leap, leap_day}
 use Rattle.calendar.specs.DayNumber.{days_before, year_start, day_number}
 use Rattle.positions.specs.Compensation.{compensation as compensationFor, interest, half_up}
-use Rattle.lines.specs.declared.line.LineAnswer.{LineAnswer}
 use Rattle.digits.specs.Field.{signed_padded, signed_field, read_digits, read_number, read_field}
 use Rattle.lines.specs.Line.{read_line}
 use Rattle.tables.specs.Limits.{creditor_count, debtor_count, bank_count}
 use Rattle.tables.specs.Ledger.{Ledger}
 use Rattle.opening.specs.Opening.{OpenResult, opened}
 use Rattle.opening.proofs.Laws.Opening.{opening_done}
-use Rattle.model.specs.declared.QueryAnswer.TheVariants.{Figure}
 use Rattle.model.specs.Step.{in_query, figure_of, query, run, Entry, history}
 use Rattle.model.specs.Journal.{Journal, new_noted, collected_on, noted_collection, note_collect, noted_settled, note_settle, note_refund, paid_on, note_kind, journal_from, journal, figure_in}
 use Rattle.model.proofs.Laws.Theorem.{demand3}
@@ -31,6 +30,8 @@ use Rattle.witness.specs.Opening.{lent, answers}
 use Rattle.witness.specs.Text.{text_of, read_of, taken_of, whole_output}
 use Rattle.witness.specs.Example.{input, output, events, numbers, positions, cents_in, Example}
 use Rattle.witness.proofs.Ruled.{ruled_answer, ruled_answers, lent_sizes, opened_answers, opened_fit, entries, history_answers}
+use Rattle.refusals.specs.declared.Refusal.{Refusal}
+use Rattle.events.specs.declared.Event.{Event}
 
 -- ---- the answers, and the history that they make
 
@@ -85,19 +86,19 @@ closing_figures kind number q =
 abbrev after_example : Ledger
 after_example = run (opened lent) events
 
-figures : (kind number : ℕ) → in_query kind number ≡ true → query after_example kind number ≡ Figure (cents_in positions kind number)
+figures : (kind number : ℕ) → in_query kind number ≡ true → query after_example kind number ≡ Ok (cents_in positions kind number)
 unfolding closing
 figures kind number q =
     (demand3 lent lent_sizes events).figures kind number q
-    ∙ ap (λ (h : List Entry). Figure (figure_in (journal h) kind number)) history_is
-    ∙ ap Figure (closing_figures kind number q)
+    ∙ ap (λ (h : List Entry). Ok (figure_in (journal h) kind number)) history_is
+    ∙ ap Ok (closing_figures kind number q)
 
 -- what a fit ledger answers is what it has
 figure_is : (kind number : ℕ) → in_query kind number ≡ true → figure_of after_example kind number ≡ cents_in positions kind number
 unfolding query
 figure_is kind number q =
     let f = opened_fit lent lent_sizes events in
-    let e : query after_example kind number ≡ Figure (figure_of after_example kind number) = rw (f, q) in
+    let e : query after_example kind number ≡ Ok (figure_of after_example kind number) = rw (f, q) in
     let g = figures kind number q in
     cc
 
@@ -148,7 +149,7 @@ answer_lines n [] = []
 answer_lines n (a ∷ rest) = answer_line n a ++ answer_lines (n + 1) rest
 
 -- whoever unfolds it unfolds all that is computed to read a line
-computed_read : List ℕ → LineAnswer
+computed_read : List ℕ → Result Event Refusal
 unfolding read_line read_digits read_number read_field ruled_answer
 computed_read line = read_line line
 

@@ -1,5 +1,6 @@
 -- An opened ledger stays fit, whatever the events, so they are answered by the rules alone: no answer need test the memory.
 -- To cite: `opened_answers`, `opened_run`, `opened_fit`, `opened_answer`, `history_answers`. Assumes nothing.
+use Rattle.std.proofs.Common.{Err, Ok, Result}
 use mathlib.Core.Path.{◌≡◌, refl, ap, ◌∙◌}
 use mathlib.Core.Bool.{true}
 use mathlib.Core.List.{List, [], ◌∷◌}
@@ -7,6 +8,7 @@ use Prim.Native.Nat.{ℕ}
 use native.Mathlib.Omega.{arith}
 use lib.Dec.{eqb}
 use borrow.Author.Tests.{ne_eqb}
+use Rattle.refusals.specs.declared.Refusal.{Refusal}
 use Rattle.refusals.specs.Refusals.{number_of}
 use Rattle.refusals.proofs.Laws.Refusals.{number_of_pos}
 use Rattle.calendar.specs.Gregorian.{leap, leap_day, month_length, is_date, in_range}
@@ -24,8 +26,6 @@ use Rattle.tables.specs.Rows.{mandate_at, collection_at, put_row}
 use Rattle.fitness.specs.Fitness.{sizes_of, sizes_fit, fit}
 use Rattle.opening.specs.Opening.{fresh, opened}
 use Rattle.opening.proofs.Laws.Opening.{opened_done}
-use Rattle.model.specs.declared.Answer.{Answer}
-use Rattle.model.specs.declared.Answer.TheVariants.{Accepted, Refused}
 use Rattle.model.specs.Actions.{new_mandate, action_of}
 use Rattle.model.specs.Lookups.{mandate_of, collection_of}
 use Rattle.model.specs.Deadlines.{kept_due, timely, last_day, lapse_end}
@@ -38,7 +38,7 @@ use Rattle.witness.specs.Opening.{lent, answers}
 
 -- ---- the rules alone; whoever unfolds one of these unfolds all that it is computed from
 
-unfoldable pub ruled_answer : Ledger → Event → Answer
+unfoldable pub ruled_answer : Ledger → Event → Result Unit Refusal
 unfolding leap leap_day month_length is_date in_range days_before year_start day_number year_at month_at date_in date_at date_of computus easter_sunday closed_by closed business_day is_open seek first_open open_after last_open_before first_business_day last_business_day_before days_after business_days_after month_count day_of_month_count months_after period_end first_from table row_of row_fits fields_fit checked bank_of lookup mandate_from collection_from mandate_at collection_at new_mandate action_of mandate_of collection_of kept_due timely last_day lapse_end ruled
 ruled_answer l e = then_ruled (checked e) (ruled l e.date (action_of e))
 
@@ -114,9 +114,9 @@ entries [] ns = []
 entries (e ∷ es) [] = []
 entries (e ∷ es) (n ∷ ns) = entry e (eqb n 0) ∷ entries es ns
 
-accepted_number : (a : Answer) → is_accepted a ≡ eqb (answer_number a) 0
-accepted_number Accepted = refl
-accepted_number (Refused r) = rw (ne_eqb (number_of r) 0 (λ e. let p = number_of_pos r in omega arith))
+accepted_number : (a : Result Unit Refusal) → is_accepted a ≡ eqb (answer_number a) 0
+accepted_number (Ok tt) = refl
+accepted_number (Err r) = rw (ne_eqb (number_of r) 0 (λ e. let p = number_of_pos r in omega arith))
 
 pub history_answers : (es : List Event) (l : Ledger) → history l es ≡ entries es (answers l es)
 unfolding history answers

@@ -1,8 +1,7 @@
 -- Every kind of event is accepted, with each of its codes: one list of events that has them all, each answered 0.
 -- Document 01, "Ten events". Assumes nothing.
-use Rattle.std.specs.Prelude.{◌≡◌, Bool, true, false, ◌&&◌, ◌||◌, List, [], ◌∷◌, ℕ, eqb, length, replicate}
+use Rattle.std.specs.Prelude.{◌≡◌, Bool, true, false, ◌&&◌, ◌||◌, List, [], ◌∷◌, ℕ, eqb, length, replicate, Ok}
 use Rattle.events.specs.declared.Event.{Event}
-use Rattle.events.specs.declared.limits.Checked.TheVariants.{Within}
 use Rattle.events.specs.Limits.{checked}
 use Rattle.opening.specs.Opening.{opened}
 use Rattle.witness.specs.Opening.{event, lent, answers}
@@ -86,6 +85,6 @@ pub record EveryKind : Type 0 where
   -- the list has an event of each kind and code
   pub covers : all_in (sorts_of events) sorts ≡ true
   -- no event within its limits is of another
-  pub complete : (e : Event) → checked e ≡ Within → is_in sorts (sort_of e) ≡ true
+  pub complete : (e : Event) → checked e ≡ (Ok tt) → is_in sorts (sort_of e) ≡ true
   -- and every event of the list is accepted
   pub accepted : answers (opened lent) events ≡ replicate (length events) 0

@@ -1,9 +1,8 @@
 -- The example of document 01, "The text line": seven lines, their answers and the positions after them. Assumes nothing.
-use Rattle.std.specs.Prelude.{◌≡◌, true, cond, ◌&&◌, List, [], ◌∷◌, ℕ, eqb, ℤ, pos, neg_ℤ}
+use Rattle.std.specs.Prelude.{◌≡◌, true, cond, ◌&&◌, List, [], ◌∷◌, ℕ, eqb, ℤ, pos, neg_ℤ, Ok}
 use Prim.Native.String.{String}
 use Rattle.events.specs.declared.Event.{Event}
 use Rattle.opening.specs.Opening.{opening, opened}
-use Rattle.model.specs.declared.QueryAnswer.TheVariants.{Figure}
 use Rattle.model.specs.Step.{in_query, query, run}
 use Rattle.witness.specs.Opening.{event, lent, answers}
 use Rattle.witness.specs.Text.{text_of, read_of, taken_of, whole_output}
@@ -86,6 +85,6 @@ pub record Example : Type 0 where
   -- after them every query within its limits is answered, with the cents listed or 0
   pub figures :
       (kind number : ℕ) → in_query kind number ≡ true
-      → query (run (opened lent) events) kind number ≡ Figure (cents_in positions kind number)
+      → query (run (opened lent) events) kind number ≡ Ok (cents_in positions kind number)
   -- the program writes the output for the input, byte for byte
   pub writes : whole_output (opened lent) (text_of input) ≡ text_of output

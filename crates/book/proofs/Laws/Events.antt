@@ -1,5 +1,6 @@
 -- Laws of the call for an event: acting on it by the rows of what it names is the model's step. To cite: `found_for`, `acted_taken`,
 -- `taken_unfit`, `taken_refused`. Assumes nothing.
+use Rattle.std.proofs.Common.{Err, None, Ok, Option, ℕ}
 use mathlib.Core.Path.{◌≡◌, refl, sym, ◌∙◌, ap, subst}
 use mathlib.Core.Bool.{true, false, cond}
 use Prim.Native.Nat.{ℕ, ◌≤◌}
@@ -7,18 +8,14 @@ use native.Mathlib.Omega.{arith}
 use Rattle.refusals.specs.declared.Refusal.{Refusal}
 use Rattle.refusals.specs.declared.Refusal.TheVariants.{UnfitMemory}
 use Rattle.events.specs.declared.Event.{Event}
-use Rattle.events.specs.declared.limits.Checked.TheVariants as events
 use Rattle.events.specs.Limits.{checked}
 use Rattle.events.proofs.Laws.Limits.{checked_facts, creditor_facts, refund_facts, kind_cases}
 use Rattle.positions.specs.Compensation.{rate_limit}
-use Rattle.tables.specs.declared.Found.{Found}
-use Rattle.tables.specs.declared.Found.TheVariants.{Nothing}
 use Rattle.tables.specs.declared.Header.{Header}
 use Rattle.tables.specs.Ledger.{Ledger}
 use Rattle.tables.specs.Lookup.{lookup, lookup_since, MayStart}
 use Rattle.fitness.specs.Fitness.{fit}
 use Rattle.fitness.proofs.Laws.Fitness.{fit_facts}
-use Rattle.model.specs.declared.Answer.TheVariants.{Refused}
 use Rattle.model.specs.declared.Action.{Action}
 use Rattle.model.specs.declared.Action.TheVariants.{Treat}
 use Rattle.model.specs.declared.Change.TheVariants.{Cancel}
@@ -41,16 +38,16 @@ use Rattle.book.specs.Events.{Taken}
 
 -- ---- the rows of what an event names
 
-pub record FoundFor (e : Event) (l : Ledger) (mandate collection : Found) : Type 0 where
+pub record FoundFor (e : Event) (l : Ledger) (mandate collection : Option ℕ) : Type 0 where
   pub mandate_is : names_mandate e.kind ≡ true → mandate ≡ lookup l.mandates l.mandates_used e.mandate
   pub collection_is : names_collection e.kind ≡ true → collection ≡ lookup l.collections l.collections_used e.a
 
 pub found_for :
-    (e : Event) (l : Ledger) (mandate collection : Found) (mandateSince collectionSince : ℕ)
+    (e : Event) (l : Ledger) (mandate collection : Option ℕ) (mandateSince collectionSince : ℕ)
     → MayStart l.mandates l.mandates_used e.mandate mandateSince
     → MayStart l.collections l.collections_used e.a collectionSince
-    → mandate ≡ cond (names_mandate e.kind) (lookup_since l.mandates l.mandates_used e.mandate mandateSince) Nothing
-    → collection ≡ cond (names_collection e.kind) (lookup_since l.collections l.collections_used e.a collectionSince) Nothing
+    → mandate ≡ cond (names_mandate e.kind) (lookup_since l.mandates l.mandates_used e.mandate mandateSince) None
+    → collection ≡ cond (names_collection e.kind) (lookup_since l.collections l.collections_used e.a collectionSince) None
     → FoundFor e l mandate collection
 found_for e l mandate collection mandateSince collectionSince s t m c = record {
   mandate_is = λ n. m ∙ rw n s;
@@ -59,8 +56,8 @@ found_for e l mandate collection mandateSince collectionSince s t m c = record {
 
 -- ---- acting on the event is the model's answer and effect
 
-module _ (l : Ledger) (e : Event) (mandate collection : Found) (r : Outcome) (l' : Ledger)
-    (f : fit l ≡ true) (w : checked e ≡ events.Within) (n : FoundFor e l mandate collection) where
+module _ (l : Ledger) (e : Event) (mandate collection : Option ℕ) (r : Outcome) (l' : Ledger)
+    (f : fit l ≡ true) (w : checked e ≡ (Ok tt)) (n : FoundFor e l mandate collection) where
   abbrev Ruled : Action → Type 0
   Ruled a = ActedOn mandate collection l e.date a r l' → Done (ruled l e.date a) l (effect l e.date a) r l'
 
@@ -126,16 +123,16 @@ module _ (l : Ledger) (e : Event) where
   made : (r : Outcome) (l' : Ledger) → r.answer ≡ answer l e → l' ≡ after l e → Taken l e r l'
   made r l' a b = record { answer_is = a; number_is = ap answer_number a ∙ event_numbers l e; after_is = b }
 
-  pub taken_unfit : (h : Header) → fit l ≡ false → Taken l e (record { answer = Refused UnfitMemory; header = h }) l
+  pub taken_unfit : (h : Header) → fit l ≡ false → Taken l e (record { answer = Err UnfitMemory; header = h }) l
   unfolding answer after
-  taken_unfit h f = made (record { answer = Refused UnfitMemory; header = h }) l (rw f) (rw f)
+  taken_unfit h f = made (record { answer = Err UnfitMemory; header = h }) l (rw f) (rw f)
 
-  pub taken_refused : (h : Header) (r : Refusal) → fit l ≡ true → checked e ≡ events.Refused r → Taken l e (record { answer = Refused r; header = h }) l
+  pub taken_refused : (h : Header) (r : Refusal) → fit l ≡ true → checked e ≡ Err r → Taken l e (record { answer = Err r; header = h }) l
   unfolding answer after
-  taken_refused h r f c = made (record { answer = Refused r; header = h }) l (rw (f, c)) (rw (f, c))
+  taken_refused h r f c = made (record { answer = Err r; header = h }) l (rw (f, c)) (rw (f, c))
 
   pub acted_taken :
-      (mandate collection : Found) (r : Outcome) (l' : Ledger) → fit l ≡ true → checked e ≡ events.Within → FoundFor e l mandate collection
+      (mandate collection : Option ℕ) (r : Outcome) (l' : Ledger) → fit l ≡ true → checked e ≡ (Ok tt) → FoundFor e l mandate collection
       → ActedOn mandate collection l e.date (action_of e) r l' → Taken l e r l'
   unfolding answer after
   acted_taken mandate collection r l' f w n d =

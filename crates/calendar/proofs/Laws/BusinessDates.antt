@@ -1,5 +1,6 @@
 -- Laws of specs/Target for dates: what the answers are.
 -- To cite: `first_business_day_is`, `Kept` with `kept_due_lem` (a due date of the range is kept in it), `lastBusinessDay-before`. Assumes nothing.
+use Rattle.std.proofs.Common.{None, Some}
 use mathlib.Core.Path.{◌≡◌, refl, sym, ap, ◌∙◌}
 use mathlib.Core.Bool.{Bool, true, false, cond}
 use Prim.Native.Nat.{ℕ, ◌+◌, ◌≤◌, ◌<◌}
@@ -10,8 +11,6 @@ use Rattle.calendar.specs.Gregorian.{leap, leap_day, month_length, is_date, in_r
 use Rattle.calendar.specs.DayNumber.{calendar_days, days_before, year_start, day_number, day_of, in_calendar, date_at, date_of}
 use Rattle.calendar.specs.Easter.{computus, easter_sunday}
 use Rattle.calendar.specs.Target.{closed_by, closed, business_day, is_open, first_open, last_open_before, answer_date, first_business_day, last_business_day_before}
-use Rattle.calendar.specs.declared.DayAnswer.TheVariants.{Day, NoDay}
-use Rattle.calendar.specs.declared.DateAnswer.TheVariants.{Date, NoDate}
 use Rattle.calendar.proofs.Laws.Gregorian.{range_facts, in_range_lem}
 use Rattle.calendar.proofs.Laws.DayNumber.{day_number_lt, date_at_date, day_number_date_at, day_number_mono, day_number_mono_le, day_number_reflects, day_number_reflects_le}
 use Rattle.calendar.proofs.Laws.Answers.{day_of_day_lem, day_of_none, date_of_is}
@@ -20,7 +19,7 @@ use Rattle.calendar.proofs.Laws.BusinessDays.{first_open_first, first_open_lt, l
 
 -- ---- dated
 
-answer_date_case : (b : Bool) (n : ℕ) → ltb n calendar_days ≡ b → answer_date (cond b (Day n) NoDay) ≡ date_of n
+answer_date_case : (b : Bool) (n : ℕ) → ltb n calendar_days ≡ b → answer_date (cond b (Some n) None) ≡ date_of n
 unfolding date_of
 answer_date_case true n e = refl
 answer_date_case false n e = rw e
@@ -32,13 +31,13 @@ answer_date_in_calendar n = answer_date_case (ltb n calendar_days) n refl
 -- ---- first_business_day
 
 -- by the answer for the date's day
-pub first_business_day_day : (x n : ℕ) → day_of x ≡ Day n → first_business_day x ≡ answer_date (in_calendar (first_open n))
+pub first_business_day_day : (x n : ℕ) → day_of x ≡ Some n → first_business_day x ≡ answer_date (in_calendar (first_open n))
 unfolding first_business_day
 first_business_day_day x n e =
     let p = day_of_day_lem x n e in
     rw (p.0, p.1) (sym (answer_date_in_calendar (first_open (day_number x))))
 
-pub first_business_day_none : (x : ℕ) → day_of x ≡ NoDay → first_business_day x ≡ NoDate
+pub first_business_day_none : (x : ℕ) → day_of x ≡ None → first_business_day x ≡ None
 unfolding first_business_day
 first_business_day_none x e = rw (day_of_none x e)
 
@@ -51,7 +50,7 @@ unfolding kept_date
 kept_date_day x = refl
 
 module _ (x : ℕ) (h : is_date x ≡ true) where
-  pub first_business_day_is : first_business_day x ≡ Date (kept_date x)
+  pub first_business_day_is : first_business_day x ≡ Some (kept_date x)
   unfolding first_business_day kept_date
   first_business_day_is = rw h (date_of_is _ (first_open_lt _ (day_number_lt x h)))
 
@@ -106,18 +105,18 @@ kept_in_range x r =
 
 -- ---- last_business_day_before
 
-pub last_business_day_day : (x n : ℕ) → day_of x ≡ Day n → last_business_day_before x ≡ answer_date (last_open_before n)
+pub last_business_day_day : (x n : ℕ) → day_of x ≡ Some n → last_business_day_before x ≡ answer_date (last_open_before n)
 unfolding last_business_day_before
 last_business_day_day x n e = let p = day_of_day_lem x n e in rw (p.0, p.1)
 
-pub last_business_day_none : (x : ℕ) → day_of x ≡ NoDay → last_business_day_before x ≡ NoDate
+pub last_business_day_none : (x : ℕ) → day_of x ≡ None → last_business_day_before x ≡ None
 unfolding last_business_day_before
 last_business_day_none x e = rw (day_of_none x e)
 
 -- the business day before a date that has one, not more than five days before it
 pub record BusinessDayBefore (x : ℕ) : Type 0 where
   pub date : ℕ
-  pub is : last_business_day_before x ≡ Date date
+  pub is : last_business_day_before x ≡ Some date
   pub is_date_lem : is_date date ≡ true
   pub business : business_day date ≡ true
   pub before : date < x

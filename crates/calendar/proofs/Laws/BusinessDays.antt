@@ -1,6 +1,7 @@
 -- Laws of specs/Target: the first business day on or after a day, the n-th after it, the last one before it.
 -- To cite: `first_open_first`, `first_open_lt`, `first_open_near`, `first_open_mono`; `open_after_more`, `open_after_from`, `open_after_near`,
 -- `open_after_mono`, `openAfter-count`; `last_open_is`, `last_open_exists`, `first_before`. Assumes nothing.
+use Rattle.std.proofs.Common.{None, Some}
 use mathlib.Core.Path.{◌≡◌, refl, sym, ap, ◌∙◌}
 use mathlib.Core.Bool.{Bool, true, false, cond, not}
 use mathlib.Core.Logic.{⊎_elim}
@@ -15,7 +16,6 @@ use Rattle.common.proofs.Tests.{never}
 use Rattle.calendar.specs.DayNumber.{calendar_days}
 use Rattle.calendar.specs.Target.{is_open, First, seek, first_open, open_after, Last, last_open_before}
 use Rattle.calendar.specs.Promises.{LastFound}
-use Rattle.calendar.specs.declared.DayAnswer.TheVariants.{Day, NoDay}
 use Rattle.calendar.proofs.Laws.Target.{open_lt, closed_not_last, first_unique, first_here, first_later, first_rest, first_mono}
 use Rattle.calendar.proofs.Laws.Holidays.{first_near}
 
@@ -151,7 +151,7 @@ last_rest n r e l =
     record { before = omega (arith, l.before); is_open_lem = l.is_open_lem; shut = λ j a b. l.shut j a (omega arith) }
 
 -- one day back
-pub last_open_hit : (n : ℕ) → 1 ≤ n → is_open (n - 1) ≡ true → last_open_before n ≡ Day (n - 1)
+pub last_open_hit : (n : ℕ) → 1 ≤ n → is_open (n - 1) ≡ true → last_open_before n ≡ Some (n - 1)
 unfolding last_open_before
 last_open_hit (suc n) h e = let p : suc n - 1 ≡ n = omega arith in rw p (rw (rw p at e))
 last_open_hit zero h e = absurd (omega arith)
@@ -161,16 +161,16 @@ unfolding last_open_before
 last_open_miss (suc n) h e = let p : suc n - 1 ≡ n = omega arith in rw p (rw (rw p at e))
 last_open_miss zero h e = absurd (omega arith)
 
-pub last_open_none : last_open_before 0 ≡ NoDay
+pub last_open_none : last_open_before 0 ≡ None
 unfolding last_open_before
 last_open_none = refl
 
-is_case : (b : Bool) (n r : ℕ) → is_open n ≡ b → Last (suc n) r → (Last n r → last_open_before n ≡ Day r) → cond b (Day n) (last_open_before n) ≡ Day r
-is_case true n r e l ih = ap Day (last_unique (suc n) n r (last_here n e) l)
+is_case : (b : Bool) (n r : ℕ) → is_open n ≡ b → Last (suc n) r → (Last n r → last_open_before n ≡ Some r) → cond b (Some n) (last_open_before n) ≡ Some r
+is_case true n r e l ih = ap Some (last_unique (suc n) n r (last_here n e) l)
 is_case false n r e l ih = ih (last_rest n r e l)
 
 -- what is last is what `last_open_before` finds
-pub last_open_is : (n r : ℕ) → Last n r → last_open_before n ≡ Day r
+pub last_open_is : (n r : ℕ) → Last n r → last_open_before n ≡ Some r
 unfolding last_open_before
 last_open_is zero r l = absurd (omega (arith, l.before))
 last_open_is (suc n) r l = is_case (is_open n) n r refl l (last_open_is n r)

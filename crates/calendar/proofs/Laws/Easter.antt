@@ -1,5 +1,6 @@
 -- Laws of specs/Easter: the table of the code, and where Easter lies.
 -- To cite: `table_easter` (the table is the computus), `EasterFacts` with `easter_facts`. Assumes nothing.
+use Rattle.std.proofs.Common.{None, Some}
 use mathlib.Core.Path.{◌≡◌, sym, ap}
 use mathlib.Core.List.{List, [], ◌∷◌}
 use mathlib.Core.Bool.{Bool, true, cond}
@@ -15,8 +16,6 @@ use Rattle.common.specs.Tests.{all_of}
 use Rattle.calendar.specs.Gregorian.{year, month_day, leap, leap_day, month_length, is_date, first_year, last_year}
 use Rattle.calendar.specs.DayNumber.{year_start, days_before, day_number, day_of}
 use Rattle.calendar.specs.Easter.{computus, easter_sunday, in_table, easter_of, easter_day_of}
-use Rattle.calendar.specs.declared.DayAnswer.TheVariants.{NoDay}
-use Rattle.calendar.specs.declared.DateAnswer.TheVariants.{Date, NoDate}
 use Rattle.calendar.proofs.Laws.Answers.{cond_date, cond_no_date, day_of_is}
 
 -- ---- the table
@@ -115,21 +114,21 @@ table_years y e =
     let p = and_halves (leb first_year y) e in
     (leb-true _ _ p.0, leb-true _ _ p.1)
 
-pub easter_of_is : (y : ℕ) → in_table y ≡ true → easter_of y ≡ Date (y * 10000 + month_day (easter_sunday y))
+pub easter_of_is : (y : ℕ) → in_table y ≡ true → easter_of y ≡ Some (y * 10000 + month_day (easter_sunday y))
 unfolding easter_of
 easter_of_is y e =
     let h = table_years y e in
     let d : easter_sunday y ≡ y * 10000 + month_day (easter_sunday y) = omega (arith, (easter_facts y h.0 h.1).of_year) in
-    rw e (ap Date d)
+    rw e (ap Some d)
 
 -- the day of the date that was answered
-pub easter_day_of_date : (y x : ℕ) → easter_of y ≡ Date x → easter_day_of y ≡ day_of x
+pub easter_day_of_date : (y x : ℕ) → easter_of y ≡ Some x → easter_day_of y ≡ day_of x
 unfolding easter_of easter_day_of
 easter_day_of_date y x e =
     let p = cond_date (in_table y) (easter_sunday y) x e in
     let h = table_years y p.0 in
     rw (p.0, p.1) (sym (day_of_is _ (easter_facts y h.0 h.1).is_date_lem))
 
-pub easter_day_of_none : (y : ℕ) → easter_of y ≡ NoDate → easter_day_of y ≡ NoDay
+pub easter_day_of_none : (y : ℕ) → easter_of y ≡ None → easter_day_of y ≡ None
 unfolding easter_of easter_day_of
 easter_day_of_none y e = rw (cond_no_date (in_table y) (easter_sunday y) e)

@@ -1,5 +1,6 @@
 -- Laws of specs/Periods: months, one after the other. To cite: `months_after_lem` (there is a date, and how far it lies), `months_after_is_date`,
 -- `months_after_mono`. Assumes nothing.
+use Rattle.std.proofs.Common.{Some}
 use mathlib.Core.Path.{◌≡◌, refl, ap, ◌∙◌}
 use mathlib.Core.Bool.{true}
 use mathlib.Core.Logic.{⊎_elim}
@@ -10,7 +11,6 @@ use Rattle.calendar.specs.Gregorian.{year, month, day_of_month, date_of_parts, l
 use Rattle.calendar.specs.DayNumber.{days_before, year_start, day_number}
 use Rattle.calendar.specs.Periods.{month_count, day_of_month_count, months_after}
 use Rattle.calendar.specs.declared.Months.{Months}
-use Rattle.calendar.specs.declared.DateAnswer.TheVariants.{Date}
 use Rattle.calendar.proofs.Laws.Gregorian.{Valid, date_valid, valid_date, leap_day_le, month_length_le, month_length_ge, date_parts}
 use Rattle.calendar.proofs.Laws.Months.{month_next, month_last, month_first}
 use Rattle.calendar.proofs.Laws.Years.{year_start_next}
@@ -163,7 +163,7 @@ months_after_lem n x h l =
           );
     }
 
-pub months_after_is_date : (n : Months) (x r : ℕ) → months_after n x ≡ Date r → is_date r ≡ true
+pub months_after_is_date : (n : Months) (x r : ℕ) → months_after n x ≡ Some r → is_date r ≡ true
 months_after_is_date n x r e =
     let p = months_after_date n x r e in
     let a = months_after_lem n x p.is_date_lem p.inside in
@@ -218,7 +218,7 @@ module _ (x y : ℕ) (v : is_date x ≡ true) (w : is_date y ≡ true) (l : x �
       omega (arith, ap start_of g, start_later k (month_count n x) (omega arith) (omega arith)))
       (eq-or-lt_of_le o)
 
-pub months_after_mono : (n : Months) (x y r s : ℕ) → months_after n x ≡ Date r → months_after n y ≡ Date s → x ≤ y → r ≤ s
+pub months_after_mono : (n : Months) (x y r s : ℕ) → months_after n x ≡ Some r → months_after n y ≡ Some s → x ≤ y → r ≤ s
 months_after_mono n x y r s e f l =
     let p = months_after_date n x r e in
     let q = months_after_date n y s f in

@@ -1,5 +1,6 @@
 -- Laws of specs/Periods: where periods end. To cite: `range_days`, `first_business_day_lem`, `days_after_lem`, `business_days_after_lem`, `period_end_lem`,
 -- `range_period_end` (each gives a `DateAfter`), and the laws named F-mono (a later start ends no earlier). Assumes nothing.
+use Rattle.std.proofs.Common.{None, Option, Some, ℕ}
 use mathlib.Core.Path.{◌≡◌, refl, sym, ◌∙◌}
 use mathlib.Core.Bool.{true, cond}
 use Prim.Native.Nat.{ℕ, ◌+◌, ◌*◌, ◌≤◌, ◌<◌}
@@ -11,8 +12,6 @@ use Rattle.calendar.specs.Periods.{days_after, business_days_after, month_count,
 use Rattle.calendar.specs.declared.CalendarDays.{CalendarDays}
 use Rattle.calendar.specs.declared.BusinessDays.{BusinessDays}
 use Rattle.calendar.specs.declared.Period.{Period}
-use Rattle.calendar.specs.declared.DateAnswer.{DateAnswer}
-use Rattle.calendar.specs.declared.DateAnswer.TheVariants.{Date, NoDate}
 use Rattle.calendar.proofs.Laws.Gregorian.{date_valid, range_facts}
 use Rattle.calendar.proofs.Laws.DayNumber.{day_number_lt, date_at_date, day_number_date_at, day_number_mono_le, day_number_reflects_le, date_at_mono_le}
 use Rattle.calendar.proofs.Laws.Answers.{DateAfter, day_of_date, date_of_is}
@@ -51,7 +50,7 @@ range_days x r =
 -- ---- from a date to a later day
 
 -- the answer for a later day of the calendar
-later : (x k d : ℕ) → is_date x ≡ true → k < calendar_days → day_number x ≤ k → k ≤ day_number x + d → DateAfter x (cond (is_date x) (date_of k) NoDate) d
+later : (x k d : ℕ) → is_date x ≡ true → k < calendar_days → day_number x ≤ k → k ≤ day_number x + d → DateAfter x (cond (is_date x) (date_of k) None) d
 later x k d h l a b =
     record {
       date = date_at k;
@@ -62,7 +61,7 @@ later x k d h l a b =
     }
 
 -- answers in the order of their days
-in_order : (x y j k r s : ℕ) → cond (is_date x) (date_of j) NoDate ≡ Date r → cond (is_date y) (date_of k) NoDate ≡ Date s → (k < calendar_days → day_number x ≤ day_number y → j ≤ k) → x ≤ y → r ≤ s
+in_order : (x y j k r s : ℕ) → cond (is_date x) (date_of j) None ≡ Some r → cond (is_date y) (date_of k) None ≡ Some s → (k < calendar_days → day_number x ≤ day_number y → j ≤ k) → x ≤ y → r ≤ s
 in_order x y j k r s e f m l =
     let p = day_of_date x j r e in
     let q = day_of_date y k s f in
@@ -84,7 +83,7 @@ pub days_after_lem : (n : CalendarDays) (x : ℕ) → is_date x ≡ true → day
 unfolding days_after
 days_after_lem n x h l = later x (day_number x + n.0) n.0 h l (omega arith) (omega arith)
 
-pub days_after_mono : (n : CalendarDays) (x y r s : ℕ) → days_after n x ≡ Date r → days_after n y ≡ Date s → x ≤ y → r ≤ s
+pub days_after_mono : (n : CalendarDays) (x y r s : ℕ) → days_after n x ≡ Some r → days_after n y ≡ Some s → x ≤ y → r ≤ s
 unfolding days_after
 days_after_mono n x y r s e f l = in_order x y _ _ r s e f (λ h m. omega arith) l
 
@@ -97,12 +96,12 @@ business_days_after_lem n x h l =
     let b = open_after_near n.0 (day_number x) l in
     later x (open_after n.0 (day_number x)) (5 * n.0) h (omega arith) (omega arith) (omega arith)
 
-pub business_days_after_mono : (n : BusinessDays) (x y r s : ℕ) → business_days_after n x ≡ Date r → business_days_after n y ≡ Date s → x ≤ y → r ≤ s
+pub business_days_after_mono : (n : BusinessDays) (x y r s : ℕ) → business_days_after n x ≡ Some r → business_days_after n y ≡ Some s → x ≤ y → r ≤ s
 unfolding business_days_after
 business_days_after_mono n x y r s e f l = in_order x y _ _ r s e f (λ h m. open_after_mono n.0 (day_number x) (day_number y) m h) l
 
 -- what is counted in business days is one
-pub business_days_after_business : (n : BusinessDays) (k x r : ℕ) → n.0 ≡ k + 1 → business_days_after n x ≡ Date r → business_day r ≡ true
+pub business_days_after_business : (n : BusinessDays) (k x r : ℕ) → n.0 ≡ k + 1 → business_days_after n x ≡ Some r → business_day r ≡ true
 unfolding business_days_after
 business_days_after_business n k x r p e =
     let q = day_of_date x _ r e in
@@ -138,16 +137,16 @@ range_period_end p x r l =
     let e = month_count_is p.months.0 x in
     period_end_lem p x f.is_date_lem (omega (arith, f.to)) (omega (arith, range_days x r))
 
-record Then (a : DateAnswer) (f : ℕ → DateAnswer) (r : ℕ) : Type 0 where
+record Then (a : Option ℕ) (f : ℕ → Option ℕ) (r : ℕ) : Type 0 where
   date : ℕ
-  first : a ≡ Date date
-  second : f date ≡ Date r
+  first : a ≡ Some date
+  second : f date ≡ Some r
 
-then_date : (a : DateAnswer) (f : ℕ → DateAnswer) (r : ℕ) → and_then a f ≡ Date r → Then a f r
-then_date (Date x) f r e = record { date = x; first = refl; second = e }
-then_date NoDate f r e = let z : ◌≡◌ {A = ℕ} 0 1 = cc in absurd (omega arith)
+then_date : (a : Option ℕ) (f : ℕ → Option ℕ) (r : ℕ) → and_then a f ≡ Some r → Then a f r
+then_date (Some x) f r e = record { date = x; first = refl; second = e }
+then_date None f r e = let z : ◌≡◌ {A = ℕ} 0 1 = cc in absurd (omega arith)
 
-pub period_end_mono : (p : Period) (x y r s : ℕ) → period_end p x ≡ Date r → period_end p y ≡ Date s → x ≤ y → r ≤ s
+pub period_end_mono : (p : Period) (x y r s : ℕ) → period_end p x ≡ Some r → period_end p y ≡ Some s → x ≤ y → r ≤ s
 unfolding period_end
 period_end_mono p x y r s e f l =
     let a = then_date (and_then (months_after p.months x) (days_after p.days)) (business_days_after p.business) r e in

@@ -1,6 +1,7 @@
 -- Laws of specs/Periods: what the answers are.
 -- To cite: the laws named F-day and F-none (from a date that there is, or is not), `months_after_is`, `period_end_is`,
 -- `period_end_steps`, `period_end_day`, `is_after_date_of`, `is_after_days_after`, `not_after_last`. Assumes nothing.
+use Rattle.std.proofs.Common.{None, Option, Some}
 use mathlib.Core.Path.{◌≡◌, refl, sym, ap, ◌∙◌}
 use mathlib.Core.Bool.{Bool, true, false, cond, not, ◌&&◌}
 use Prim.Native.Nat.{ℕ, ◌+◌, ◌-◌, ◌*◌, ◌/◌, ◌%◌, ◌≤◌, ◌<◌}
@@ -17,21 +18,17 @@ use Rattle.calendar.specs.declared.CalendarDays.{CalendarDays}
 use Rattle.calendar.specs.declared.BusinessDays.{BusinessDays}
 use Rattle.calendar.specs.declared.Months.{Months}
 use Rattle.calendar.specs.declared.Period.{Period}
-use Rattle.calendar.specs.declared.DayAnswer.TheVariants.{Day, NoDay}
-use Rattle.calendar.specs.declared.DateAnswer.TheVariants.{Date, NoDate}
-use Rattle.calendar.specs.declared.DaysAnswer.{DaysAnswer}
-use Rattle.calendar.specs.declared.DaysAnswer.TheVariants.{Days, NoDays}
 use Rattle.calendar.proofs.Laws.DayNumber.{day_number_lt, date_at_date, day_number_date_at, day_number_mono, day_number_mono_le, day_number_reflects, day_number_reflects_le}
 use Rattle.calendar.proofs.Laws.Answers.{cond_date, date_of_is, date_of_beyond, day_of_day_lem, day_of_none}
 use Rattle.calendar.proofs.Laws.BusinessDays.{last_open_exists, first_before}
 
 -- ---- days_after
 
-pub days_after_day : (n : CalendarDays) (x d : ℕ) → day_of x ≡ Day d → days_after n x ≡ date_of (d + n.0)
+pub days_after_day : (n : CalendarDays) (x d : ℕ) → day_of x ≡ Some d → days_after n x ≡ date_of (d + n.0)
 unfolding days_after
 days_after_day n x d e = let p = day_of_day_lem x d e in rw (p.0, p.1)
 
-pub days_after_none : (n : CalendarDays) (x : ℕ) → day_of x ≡ NoDay → days_after n x ≡ NoDate
+pub days_after_none : (n : CalendarDays) (x : ℕ) → day_of x ≡ None → days_after n x ≡ None
 unfolding days_after
 days_after_none n x e = rw (day_of_none x e)
 
@@ -45,39 +42,39 @@ leb_case x y v w =
       | no h ↦ lt-leb x y (omega arith) ∙ sym (lt-leb (day_number x) (day_number y) (day_number_mono y x w v (omega arith)))
     ]
 
-module _ (x y m n : ℕ) (e : day_of x ≡ Day m) (f : day_of y ≡ Day n) where
-  between : days_between x y ≡ cond (leb m n) (Days (record { 0 = n - m })) NoDays
+module _ (x y m n : ℕ) (e : day_of x ≡ Some m) (f : day_of y ≡ Some n) where
+  between : days_between x y ≡ cond (leb m n) (Some (record { 0 = n - m })) None
   unfolding days_between
   between =
       let p = day_of_day_lem x m e in
       let q = day_of_day_lem y n f in
       rw (p.0, q.0, leb_case x y p.0 q.0, ← p.1, ← q.1)
 
-  pub days_between_days : m ≤ n → days_between x y ≡ Days (record { 0 = n - m })
+  pub days_between_days : m ≤ n → days_between x y ≡ Some (record { 0 = n - m })
   days_between_days h = between ∙ rw (le-leb m n h)
 
-  pub days_between_later : n < m → days_between x y ≡ NoDays
+  pub days_between_later : n < m → days_between x y ≡ None
   days_between_later h = between ∙ rw (lt-leb m n h)
 
-pub days_between_no_start : (x y : ℕ) → day_of x ≡ NoDay → days_between x y ≡ NoDays
+pub days_between_no_start : (x y : ℕ) → day_of x ≡ None → days_between x y ≡ None
 unfolding days_between
 days_between_no_start x y e = rw (day_of_none x e)
 
-no_end : (a b : Bool) (d : DaysAnswer) → cond (a && false && b) d NoDays ≡ NoDays
+no_end : (a b : Bool) (d : Option CalendarDays) → cond (a && false && b) d None ≡ None
 no_end true b d = refl
 no_end false b d = refl
 
-pub days_between_no_end : (x y : ℕ) → day_of y ≡ NoDay → days_between x y ≡ NoDays
+pub days_between_no_end : (x y : ℕ) → day_of y ≡ None → days_between x y ≡ None
 unfolding days_between
 days_between_no_end x y e = rw (day_of_none y e) (no_end (is_date x) (leb x y) _)
 
 -- ---- business_days_after
 
-pub business_days_after_day : (n : BusinessDays) (x d : ℕ) → day_of x ≡ Day d → business_days_after n x ≡ date_of (open_after n.0 d)
+pub business_days_after_day : (n : BusinessDays) (x d : ℕ) → day_of x ≡ Some d → business_days_after n x ≡ date_of (open_after n.0 d)
 unfolding business_days_after
 business_days_after_day n x d e = let p = day_of_day_lem x d e in rw (p.0, p.1)
 
-pub business_days_after_none : (n : BusinessDays) (x : ℕ) → day_of x ≡ NoDay → business_days_after n x ≡ NoDate
+pub business_days_after_none : (n : BusinessDays) (x : ℕ) → day_of x ≡ None → business_days_after n x ≡ None
 unfolding business_days_after
 business_days_after_none n x e = rw (day_of_none x e)
 
@@ -95,15 +92,15 @@ module _ (t d : ℕ) where
 -- ---- months_after
 
 module _ (n : Months) (x : ℕ) where
-  pub months_after_is : is_date x ≡ true → month_count n.0 x < (last_year + 1) * 12 → months_after n x ≡ Date (day_of_month_count (month_count n.0 x) (day_of_month x))
+  pub months_after_is : is_date x ≡ true → month_count n.0 x < (last_year + 1) * 12 → months_after n x ≡ Some (day_of_month_count (month_count n.0 x) (day_of_month x))
   unfolding months_after
   months_after_is e h = rw (e, lt-ltb _ _ h)
 
-  pub months_after_beyond : is_date x ≡ true → (last_year + 1) * 12 ≤ month_count n.0 x → months_after n x ≡ NoDate
+  pub months_after_beyond : is_date x ≡ true → (last_year + 1) * 12 ≤ month_count n.0 x → months_after n x ≡ None
   unfolding months_after
   months_after_beyond e h = rw (e, le-ltb _ _ h)
 
-  pub months_after_none : is_date x ≡ false → months_after n x ≡ NoDate
+  pub months_after_none : is_date x ≡ false → months_after n x ≡ None
   unfolding months_after
   months_after_none e = rw e
 
@@ -113,7 +110,7 @@ pub record MonthsDate (n : Months) (x r : ℕ) : Type 0 where
   pub inside : month_count n.0 x < (last_year + 1) * 12
   pub is : r ≡ day_of_month_count (month_count n.0 x) (day_of_month x)
 
-pub months_after_date : (n : Months) (x r : ℕ) → months_after n x ≡ Date r → MonthsDate n x r
+pub months_after_date : (n : Months) (x r : ℕ) → months_after n x ≡ Some r → MonthsDate n x r
 unfolding months_after
 months_after_date n x r e =
     let p = cond_date (is_date x && ltb (month_count n.0 x) ((last_year + 1) * 12)) _ r e in
@@ -132,16 +129,16 @@ module _ (p : Period) (x : ℕ) where
   unfolding period_end
   period_end_steps = refl
 
-  pub period_end_is : (m d : ℕ) → months_after p.months x ≡ Date m → days_after p.days m ≡ Date d → period_end p x ≡ business_days_after p.business d
+  pub period_end_is : (m d : ℕ) → months_after p.months x ≡ Some m → days_after p.days m ≡ Some d → period_end p x ≡ business_days_after p.business d
   unfolding period_end
   period_end_is m d e f = rw (e, f)
 
-  pub period_end_no_months : months_after p.months x ≡ NoDate → period_end p x ≡ NoDate
+  pub period_end_no_months : months_after p.months x ≡ None → period_end p x ≡ None
   unfolding period_end
   period_end_no_months e = rw e
 
   -- by the number of the day some months after
-  module _ (m : ℕ) (e : months_after p.months x ≡ Date m) (h : is_date m ≡ true) where
+  module _ (m : ℕ) (e : months_after p.months x ≡ Some m) (h : is_date m ≡ true) where
     pub period_end_day : day_number m + p.days.0 < calendar_days → period_end p x ≡ date_of (open_after p.business.0 (day_number m + p.days.0))
     unfolding days_after business_days_after
     period_end_day l =
@@ -149,7 +146,7 @@ module _ (p : Period) (x : ℕ) where
         period_end_is m (date_at k) e (rw h (date_of_is k l))
         ∙ rw (date_at_date k l, day_number_date_at k l)
 
-    pub period_end_beyond : calendar_days ≤ day_number m + p.days.0 → period_end p x ≡ NoDate
+    pub period_end_beyond : calendar_days ≤ day_number m + p.days.0 → period_end p x ≡ None
     unfolding period_end days_after
     period_end_beyond l = rw (e, h, date_of_beyond (day_number m + p.days.0) l)
 

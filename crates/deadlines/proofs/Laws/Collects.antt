@@ -1,5 +1,6 @@
 -- Laws of the terms of a collect: the kept due, the time by the days, the lapse.
 -- To cite: `kept_due_date`, `kept_due_none`, `timely_days`, `day_lt`, `lapse_end_signed`, `lapse_end_presented`. Assumes nothing.
+use Rattle.std.proofs.Common.{None, Some}
 use mathlib.Core.Path.{◌≡◌}
 use mathlib.Core.Bool.{not, ◌&&◌}
 use mathlib.Core.Logic.{◌≢◌}
@@ -7,8 +8,6 @@ use Prim.Native.Nat.{ℕ, ◌+◌, ◌≤◌, ◌<◌}
 use native.Mathlib.Omega.{arith}
 use lib.Dec.{ltb}
 use borrow.Author.Tests.{eq-eqb, ne_eqb}
-use Rattle.calendar.specs.declared.DateAnswer.TheVariants.{Date, NoDate}
-use Rattle.calendar.specs.declared.DayAnswer.TheVariants.{Day}
 use Rattle.calendar.specs.DayNumber.{calendar_days, day_number, day_of}
 use Rattle.calendar.specs.Target.{first_open, first_business_day}
 use Rattle.calendar.specs.Periods.{months_after}
@@ -22,17 +21,17 @@ use Rattle.model.specs.Deadlines.{kept_due, timely, lapse_end}
 -- ---- kept due and time
 
 module _ (requested : ℕ) where
-  pub kept_due_date : (x : ℕ) → first_business_day requested ≡ Date x → kept_due requested ≡ x
+  pub kept_due_date : (x : ℕ) → first_business_day requested ≡ Some x → kept_due requested ≡ x
   unfolding kept_due
   kept_due_date x e = rw e
 
-  pub kept_due_none : first_business_day requested ≡ NoDate → kept_due requested ≡ 0
+  pub kept_due_none : first_business_day requested ≡ None → kept_due requested ≡ 0
   unfolding kept_due
   kept_due_none e = rw e
 
 -- both tests by the days
 pub timely_days :
-    (date requested day asked : ℕ) → day_of date ≡ Day day → day_of requested ≡ Day asked → 5 ≤ asked
+    (date requested day asked : ℕ) → day_of date ≡ Some day → day_of requested ≡ Some asked → 5 ≤ asked
     → timely date requested ≡ not (ltb (day + 14) asked) && ltb (first_open day) (first_open asked)
 unfolding timely
 timely_days date requested day asked e f h =
@@ -49,7 +48,7 @@ timely_days date requested day asked e f h =
     )
 
 -- such days are of the calendar
-pub day_lt : (x n : ℕ) → day_of x ≡ Day n → n < calendar_days
+pub day_lt : (x n : ℕ) → day_of x ≡ Some n → n < calendar_days
 day_lt x n e = let d = day_of_day_lem x n e in omega (arith, d.1, day_number_lt x d.0)
 
 -- ---- lapse

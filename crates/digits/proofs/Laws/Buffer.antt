@@ -2,6 +2,7 @@
 -- buffer: `length_pasted`, `take_pasted` and `drop_written` (what stands before and behind stays), `take_line`, `pasted_pasted` (one
 -- piece behind the other); of a buffer written so far: `written_none`, `written_more`, `written_field`, `written_byte`,
 -- `written_length`. The rest serves the functions of this crate. Assumes nothing.
+use Rattle.std.proofs.Common.{None, Option, ℕ}
 use mathlib.Core.Path.{◌≡◌, refl, sym, ◌∙◌, ap}
 use mathlib.Core.Bool.{Bool, true, false, cond, ◌&&◌}
 use mathlib.Core.List.{List, [], ◌∷◌, ◌++◌, append_assoc}
@@ -15,8 +16,6 @@ use lib.Dec.{leb, ltb}
 use lib.ListN.{length, take, drop, set, length-append, length-drop, take-append-drop}
 use lib.Seq.{length-take-le, take-append-le, take-take, take_at, drop_at, drop-drop, drop-cons, set_split, take-set-le, lt-length-set, get_or-set_same, drop-set-lt}
 use Rattle.common.proofs.Tests.{and_halves, true_or_false}
-use Rattle.digits.specs.declared.reading.FieldAnswer.{FieldAnswer}
-use Rattle.digits.specs.declared.reading.FieldAnswer.TheVariants.{NoValue}
 use Rattle.digits.specs.Field.{blank, last_digit, signed_padded, signed_field, read_field, has_room, field_at, pasted, put_at}
 use Rattle.digits.proofs.Laws.Field.{signed_padded_none, signed_padded_more, length_signed_field}
 
@@ -51,18 +50,18 @@ module _ (at w : ℕ) (l : List ℕ) where
   field_inside n h = rw (le-leb w 12 n, le-leb (at + w) (length l) h)
 
   -- of no column nothing is read
-  pub field_outside : ltb 0 w && leb w 12 && has_room at w (length l) ≡ false → field_at at w l ≡ NoValue
+  pub field_outside : ltb 0 w && leb w 12 && has_room at w (length l) ≡ false → field_at at w l ≡ None
   unfolding field_at read_field
   field_outside e =
       ⊎_elim
       (λ (t : ltb 0 w ≡ true). rw (rw t at e))
       (λ (t : ltb 0 w ≡ false).
       let z : w ≡ 0 = omega (arith, ltb-false 0 w t) in
-      ap (λ (x : FieldAnswer). cond (leb w 12 && has_room at w (length l)) x NoValue) (ap (λ (n : ℕ). read_field (take n (drop at l))) z)
+      ap (λ (x : Option ℕ). cond (leb w 12 && has_room at w (length l)) x None) (ap (λ (n : ℕ). read_field (take n (drop at l))) z)
       ∙ no_value (leb w 12 && has_room at w (length l)))
       (true_or_false (ltb 0 w))
     where
-      no_value : (b : Bool) → cond b NoValue NoValue ≡ NoValue
+      no_value : (b : Bool) → cond b None None ≡ None
       no_value true = refl
       no_value false = refl
 

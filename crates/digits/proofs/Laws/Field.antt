@@ -1,6 +1,7 @@
 -- Laws of a field, specs/Field. To cite: `length_signed_field`, `signed_field_digits` (the sign directly before the digits),
 -- `read_field_field_bytes` and `field_bytes_read_field` (reading and writing undo each other), `read_field_narrow`. The rest serves the
 -- functions of this crate. Assumes nothing.
+use Rattle.std.proofs.Common.{None, Option, Some, ℕ}
 use mathlib.Core.Path.{◌≡◌, refl, sym, ◌∙◌, ap, subst}
 use mathlib.Core.Bool.{Bool, true, false, cond, ◌&&◌}
 use mathlib.Core.List.{List, [], ◌∷◌, ◌++◌, append_assoc, append-nil}
@@ -17,8 +18,6 @@ use mir.Val.{to_z, of_z, SFits}
 use mir.Facts.{to_z-of_z}
 use borrow.Author.Tests.{leb-true, le-leb, ltb-true, lt-ltb, eqb-true, eqb-false, eq-eqb, ne_eqb}
 use Rattle.common.proofs.Tests.{never, and_halves, and_true, true_or_false, false_unless}
-use Rattle.digits.specs.declared.reading.FieldAnswer.{FieldAnswer}
-use Rattle.digits.specs.declared.reading.FieldAnswer.TheVariants.{Value, NoValue}
 use Rattle.digits.specs.Field.{blank, minus, zero_digit, last_digit, signed_padded, signed_field, field_bytes, sign_of, is_digit, read_digits, read_number, read_field}
 
 -- ---- powers of ten
@@ -147,11 +146,11 @@ last_digit_is_digit v =
     (le-leb zero_digit (last_digit v) (omega arith))
     (le-leb (last_digit v) 57 (omega arith))
 
-cond_value : (b : Bool) (x : FieldAnswer) (v : ℕ) → cond b x NoValue ≡ Value v → (b ≡ true) × (x ≡ Value v)
+cond_value : (b : Bool) (x : Option ℕ) (v : ℕ) → cond b x None ≡ Some v → (b ≡ true) × (x ≡ Some v)
 cond_value true x v e = (refl, e)
 cond_value false x v e = let z : ◌≡◌ {A = ℕ} 0 1 = cc in absurd (omega arith)
 
-cond_no : (b : Bool) (x : FieldAnswer) (v : ℕ) → cond b NoValue x ≡ Value v → (b ≡ false) × (x ≡ Value v)
+cond_no : (b : Bool) (x : Option ℕ) (v : ℕ) → cond b None x ≡ Some v → (b ≡ false) × (x ≡ Some v)
 cond_no true x v e = let z : ◌≡◌ {A = ℕ} 0 1 = cc in absurd (omega arith)
 cond_no false x v e = (refl, e)
 
@@ -162,16 +161,16 @@ and_false false = refl
 -- one digit more at the right edge
 read_digits_more : (u v b : ℕ) (bs : List ℕ)
     → is_digit b ≡ true
-    → read_digits u bs ≡ Value v
-    → read_digits u (bs ++ (b ∷ [])) ≡ Value (v * 10 + (b - zero_digit))
+    → read_digits u bs ≡ Some v
+    → read_digits u (bs ++ (b ∷ [])) ≡ Some (v * 10 + (b - zero_digit))
 unfolding read_digits
-read_digits_more u v b [] d e = rw d (ap (λ (x : ℕ). Value (x * 10 + (b - zero_digit))) (let p : u ≡ v = cc in p))
+read_digits_more u v b [] d e = rw d (ap (λ (x : ℕ). Some (x * 10 + (b - zero_digit))) (let p : u ≡ v = cc in p))
 read_digits_more u v b (x ∷ bs) d e =
     let p = cond_value (is_digit x) _ v e in
     rw p.0 (read_digits_more (u * 10 + (x - zero_digit)) v b bs d p.1)
 
 -- digits after a number above 0 come to a number above 0
-read_digits_pos : (u v : ℕ) (bs : List ℕ) → 0 < u → read_digits u bs ≡ Value v → 0 < v
+read_digits_pos : (u v : ℕ) (bs : List ℕ) → 0 < u → read_digits u bs ≡ Some v → 0 < v
 unfolding read_digits
 read_digits_pos u v [] h e = let p : u ≡ v = cc in omega arith
 read_digits_pos u v (b ∷ bs) h e =
@@ -201,7 +200,7 @@ padded_digit b h d =
 -- digits behind a number above 0: written, they follow it
 read_digits_padded : (w u v : ℕ) (bs : List ℕ)
     → 0 < u
-    → read_digits u bs ≡ Value v
+    → read_digits u bs ≡ Some v
     → padded (w + length bs) v ≡ padded w u ++ bs
 unfolding read_digits
 read_digits_padded w u v [] h e = let p : u ≡ v = cc in simp (add-zero, append-nil, p)
@@ -215,7 +214,7 @@ read_digits_padded w u v (b ∷ bs) h e =
 -- a number of w digits and more behind it
 read_digits_narrow : (w u v : ℕ) (bs : List ℕ)
     → u < 10 ^ w
-    → read_digits u bs ≡ Value v
+    → read_digits u bs ≡ Some v
     → v < 10 ^ (w + length bs)
 unfolding read_digits
 read_digits_narrow w u v [] h e = let p : u ≡ v = cc in rw (add-zero, ← p) h
@@ -229,7 +228,7 @@ read_digits_narrow w u v (b ∷ bs) h e =
 -- ---- a field read
 
 -- a number above 0 begins with another digit than 0
-read_number_leads : (v b : ℕ) (bs : List ℕ) → 0 < v → read_number (b ∷ bs) ≡ Value v → eqb b zero_digit ≡ false
+read_number_leads : (v b : ℕ) (bs : List ℕ) → 0 < v → read_number (b ∷ bs) ≡ Some v → eqb b zero_digit ≡ false
 unfolding read_number read_digits
 read_number_leads v b [] h e =
     false_unless (eqb b zero_digit) λ t.
@@ -245,8 +244,8 @@ read_number_leads v b (x ∷ bs) h e =
 read_number_more : (v d : ℕ) (l : List ℕ)
     → 0 < v
     → is_digit d ≡ true
-    → read_number l ≡ Value v
-    → read_number (l ++ (d ∷ [])) ≡ Value (v * 10 + (d - zero_digit))
+    → read_number l ≡ Some v
+    → read_number (l ++ (d ∷ [])) ≡ Some (v * 10 + (d - zero_digit))
 unfolding read_number
 read_number_more v d [] h g e = let z : ◌≡◌ {A = ℕ} 0 1 = cc in absurd (omega arith)
 read_number_more v d (b ∷ bs) h g e =
@@ -256,8 +255,8 @@ read_number_more v d (b ∷ bs) h g e =
 read_field_more : (v d : ℕ) (l : List ℕ)
     → 0 < v
     → is_digit d ≡ true
-    → read_field l ≡ Value v
-    → read_field (l ++ (d ∷ [])) ≡ Value (v * 10 + (d - zero_digit))
+    → read_field l ≡ Some v
+    → read_field (l ++ (d ∷ [])) ≡ Some (v * 10 + (d - zero_digit))
 unfolding read_field
 read_field_more v d [] h g e = let z : ◌≡◌ {A = ℕ} 0 1 = cc in absurd (omega arith)
 read_field_more v d (b ∷ bs) h g e =
@@ -271,33 +270,33 @@ unfolding read_field signed_padded
 read_field_blanks zero l = refl
 read_field_blanks (suc w) l = rw (padded_wider w 0 (one-le-pow w 10 (lit< tt))) (read_field_blanks w l)
 
-pub read_field_digit : (d : ℕ) → is_digit d ≡ true → read_field (d ∷ []) ≡ Value (d - zero_digit)
+pub read_field_digit : (d : ℕ) → is_digit d ≡ true → read_field (d ∷ []) ≡ Some (d - zero_digit)
 unfolding read_field read_number read_digits
 read_field_digit d g =
     let f = digit_facts d g in
-    rw (ne_eqb d blank (λ e. omega arith), g, and_false (eqb d zero_digit)) (ap Value (omega arith))
+    rw (ne_eqb d blank (λ e. omega arith), g, and_false (eqb d zero_digit)) (ap Some (omega arith))
 
 -- the digits of q and one more, d, with blanks before them
-module _ (w : ℕ) (above : (q : ℕ) → 0 < q → q < 10 ^ w → read_field (padded w q) ≡ Value q) where
-  read_field_last : (v : ℕ) → v < 10 ^ suc w → read_field (padded w (v / 10) ++ (last_digit v ∷ [])) ≡ Value v
+module _ (w : ℕ) (above : (q : ℕ) → 0 < q → q < 10 ^ w → read_field (padded w q) ≡ Some q) where
+  read_field_last : (v : ℕ) → v < 10 ^ suc w → read_field (padded w (v / 10) ++ (last_digit v ∷ [])) ≡ Some v
   read_field_last v h =
       ⊎_elim
       (λ z.
       ap (λ (q : ℕ). read_field (padded w q ++ (last_digit v ∷ []))) z
       ∙ read_field_blanks w (last_digit v ∷ [])
       ∙ read_field_digit (last_digit v) (last_digit_is_digit v)
-      ∙ ap Value (omega arith))
+      ∙ ap Some (omega arith))
       (λ p.
       read_field_more (v / 10) (last_digit v) (padded w (v / 10)) p (last_digit_is_digit v) (above (v / 10) p (div_narrow w v h))
-      ∙ ap Value (omega arith))
+      ∙ ap Some (omega arith))
       (eq-zero-or-pos (v / 10))
 
-read_field_padded : (w v : ℕ) → 0 < v → v < 10 ^ w → read_field (padded w v) ≡ Value v
+read_field_padded : (w v : ℕ) → 0 < v → v < 10 ^ w → read_field (padded w v) ≡ Some v
 read_field_padded zero v p h = absurd (omega arith)
 read_field_padded (suc w) v p h = rw (padded_more w v p) (read_field_last w (read_field_padded w) v h)
 
 -- reading a field gives what was written
-pub read_field_field_bytes : (w v : ℕ) → 0 < w → v < 10 ^ w → read_field (field_bytes w v) ≡ Value v
+pub read_field_field_bytes : (w v : ℕ) → 0 < w → v < 10 ^ w → read_field (field_bytes w v) ≡ Some v
 unfolding signed_field
 read_field_field_bytes zero v p h = absurd (omega arith)
 read_field_field_bytes (suc w) v p h = read_field_last w (read_field_padded w) v h
@@ -308,7 +307,7 @@ record Reads (l : List ℕ) (v : ℕ) : Type 0 where
   narrow : v < 10 ^ length l
 
 -- a single 0
-reads_zero : (b v : ℕ) (bs : List ℕ) → eqb b zero_digit ≡ true → read_number (b ∷ bs) ≡ Value v → Reads (b ∷ bs) v
+reads_zero : (b v : ℕ) (bs : List ℕ) → eqb b zero_digit ≡ true → read_number (b ∷ bs) ≡ Some v → Reads (b ∷ bs) v
 unfolding read_number read_digits signed_field signed_padded
 reads_zero b v [] z e =
     let p = cond_no (eqb b zero_digit && ltb 0 0) _ v e in
@@ -321,7 +320,7 @@ reads_zero b v (x ∷ bs) z e =
     (never (and_true z (lt-ltb 0 (suc (length bs)) (omega arith))) (cond_no (eqb b zero_digit && ltb 0 (suc (length bs))) _ v e).0)
 
 -- a digit above 0, and digits
-reads_digits : (b v : ℕ) (bs : List ℕ) → eqb b zero_digit ≡ false → read_number (b ∷ bs) ≡ Value v → Reads (b ∷ bs) v
+reads_digits : (b v : ℕ) (bs : List ℕ) → eqb b zero_digit ≡ false → read_number (b ∷ bs) ≡ Some v → Reads (b ∷ bs) v
 unfolding read_number read_digits
 reads_digits b v bs z e =
     let p = cond_no (eqb b zero_digit && ltb 0 (length bs)) _ v e in
@@ -340,12 +339,12 @@ reads_digits b v bs z e =
           (read_digits_narrow 1 (0 * 10 + (b - zero_digit)) v bs (omega arith) q.1);
     }
 
-read_number_reads : (b v : ℕ) (bs : List ℕ) → read_number (b ∷ bs) ≡ Value v → Reads (b ∷ bs) v
+read_number_reads : (b v : ℕ) (bs : List ℕ) → read_number (b ∷ bs) ≡ Some v → Reads (b ∷ bs) v
 read_number_reads b v bs e =
     ⊎_elim (λ z. reads_zero b v bs z e) (λ z. reads_digits b v bs z e) (true_or_false (eqb b zero_digit))
 
 -- a blank more
-reads_blank : (b v : ℕ) (bs : List ℕ) → b ≡ blank → read_field bs ≡ Value v → Reads bs v → Reads (b ∷ bs) v
+reads_blank : (b v : ℕ) (bs : List ℕ) → b ≡ blank → read_field bs ≡ Some v → Reads bs v → Reads (b ∷ bs) v
 unfolding read_field
 reads_blank b v [] s e r = let z : ◌≡◌ {A = ℕ} 0 1 = cc in absurd (omega arith)
 reads_blank b v (x ∷ bs) s e r = record {
@@ -353,7 +352,7 @@ reads_blank b v (x ∷ bs) s e r = record {
   narrow = let t = ten (suc (length bs)) in omega (arith, r.narrow);
 }
 
-read_field_reads : (l : List ℕ) (v : ℕ) → read_field l ≡ Value v → Reads l v
+read_field_reads : (l : List ℕ) (v : ℕ) → read_field l ≡ Some v → Reads l v
 unfolding read_field
 read_field_reads [] v e = let z : ◌≡◌ {A = ℕ} 0 1 = cc in absurd (omega arith)
 read_field_reads (b ∷ bs) v e =
@@ -363,11 +362,11 @@ read_field_reads (b ∷ bs) v e =
     (true_or_false (eqb b blank))
 
 -- writing what was read of a field gives its bytes
-pub field_bytes_read_field : (l : List ℕ) (v : ℕ) → read_field l ≡ Value v → field_bytes (length l) v ≡ l
+pub field_bytes_read_field : (l : List ℕ) (v : ℕ) → read_field l ≡ Some v → field_bytes (length l) v ≡ l
 field_bytes_read_field l v e = (read_field_reads l v e).bytes
 
 -- a field has no more digits than columns
-pub read_field_narrow : (l : List ℕ) (v : ℕ) → read_field l ≡ Value v → v < 10 ^ length l
+pub read_field_narrow : (l : List ℕ) (v : ℕ) → read_field l ≡ Some v → v < 10 ^ length l
 read_field_narrow l v e = (read_field_reads l v e).narrow
 
 -- ---- signs of 64 bits

@@ -2,6 +2,7 @@
 -- (the test for eight digits), `value_fits`, `value_pairs` (their number by pairs), `blanks_led`, `blanks_last` (a field of eight columns),
 -- `next_is`, `head_start`, `head_step`, `head_done`, `digits_step` (its first columns), `field_last`, `field_word` (those to its right edge), `last-..` and `tail-..` (its
 -- number), `answer_read` (its answer). Assumes nothing.
+use Rattle.std.proofs.Common.{None, Option, Some, ℕ}
 use mathlib.Core.Path.{◌≡◌, refl, sym, ap, ◌∙◌, subst}
 use mathlib.Core.Bool.{Bool, true, false, cond, not, ◌&&◌}
 use mathlib.Core.List.{List, [], ◌∷◌, ◌++◌}
@@ -18,8 +19,6 @@ use borrow.Author.Tests.{leb-true, le-leb, lt-leb, ltb-true, ltb-false, lt-ltb, 
 use denote.Floats.{is_true}
 use Rattle.common.proofs.Every.{below}
 use Rattle.common.proofs.Tests.{never, and_halves, true_or_false, not_true}
-use Rattle.digits.specs.declared.reading.FieldAnswer.{FieldAnswer}
-use Rattle.digits.specs.declared.reading.FieldAnswer.TheVariants.{Value, NoValue}
 use Rattle.digits.specs.Field.{blank, zero_digit, is_digit, read_digits, read_number, read_field}
 use Rattle.digits.specs.Words.{bytes_of, none, number_in, are_digits, digits_from, led_by, onward}
 use Rattle.digits.proofs.Laws.Field.{digit_facts, read_field_digit, read_field_narrow}
@@ -503,7 +502,7 @@ module _ (k w : ℕ) (h : w < 2 ^ 64) (hk : k ≤ 8) (e : w % 256 ^ k ≡ word_o
 
 -- ---- a field that a digit leads
 
-read_digits_is : (v : ℕ) (bs : List ℕ) → read_digits v bs ≡ cond (are_digits bs) (Value (digits_from v bs)) NoValue
+read_digits_is : (v : ℕ) (bs : List ℕ) → read_digits v bs ≡ cond (are_digits bs) (Some (digits_from v bs)) None
 unfolding read_digits are_digits digits_from
 read_digits_is v [] = refl
 read_digits_is v (b ∷ bs) =
@@ -560,7 +559,7 @@ number_led r rs h =
     (λ (t : are_digits (r ∷ rs) ≡ false). rw t (never_value (eqb r zero_digit)))
     (true_or_false (are_digits (r ∷ rs))))
   where
-    never_value : (z : Bool) → number_in (cond (z && true) NoValue NoValue) ≡ none
+    never_value : (z : Bool) → number_in (cond (z && true) None None) ≡ none
     never_value true = refl
     never_value false = refl
 
@@ -579,7 +578,7 @@ last_field r =
     blank_no_digit : (b : ℕ) → b ≡ blank → is_digit b ≡ false
     blank_no_digit b e = rw e
 
-    one : (t : Bool) → number_in (cond t (Value (0 * 10 + (r - zero_digit))) NoValue) ≡ cond ((t && true) && leb 0 (0 * 10 + (r - zero_digit))) (0 * 10 + (r - zero_digit)) none
+    one : (t : Bool) → number_in (cond t (Some (0 * 10 + (r - zero_digit))) None) ≡ cond ((t && true) && leb 0 (0 * 10 + (r - zero_digit))) (0 * 10 + (r - zero_digit)) none
     one true = rw (le-leb 0 (0 * 10 + (r - zero_digit)) (omega arith))
     one false = refl
 
@@ -684,7 +683,7 @@ unfolding onward
 onward_number v s n h = rw (ne_eqb v 0 n, lt-ltb v none h)
 
 -- no number stays none
-onward_none : (v : ℕ) (s : List ℕ) → none ≤ v → onward v s ≡ NoValue
+onward_none : (v : ℕ) (s : List ℕ) → none ≤ v → onward v s ≡ None
 unfolding onward
 onward_none v s h = rw (ne_eqb v 0 (λ e. omega arith), le-ltb v none h)
 
@@ -709,7 +708,7 @@ lead b s h =
     plain : (x : ℕ) → 0 * 10 + x ≡ x
     plain x = omega arith
 
-    nothing : (t : Bool) → cond t NoValue NoValue ≡ NoValue
+    nothing : (t : Bool) → cond t None None ≡ None
     nothing true = refl
     nothing false = refl
 
@@ -949,7 +948,7 @@ module _ (v w : ℕ) where
 pub answer_read : (at w : ℕ) (l : List ℕ) (v : ℕ)
     → w ≤ 12
     → v ≡ number_in (read_field (take w (drop at l)))
-    → cond (ltb v none) (Value v) NoValue ≡ read_field (take w (drop at l))
+    → cond (ltb v none) (Some v) None ≡ read_field (take w (drop at l))
 answer_read at w l v h e =
     let m = length-take w (drop at l) in
     marked (read_field (take w (drop at l))) v e
@@ -957,6 +956,6 @@ answer_read at w l v h e =
     lt_of_lt_of_le (read_field_narrow (take w (drop at l)) u i)
     (pow-le-pow_right {n = 10} (lit< tt) {i = length (take w (drop at l))} {j = 12} (omega arith)))
   where
-    marked : (x : FieldAnswer) (v : ℕ) → v ≡ number_in x → ((u : ℕ) → x ≡ Value u → u < none) → cond (ltb v none) (Value v) NoValue ≡ x
-    marked (Value u) v e f = rw (e, lt-ltb u none (f u refl))
-    marked NoValue v e f = rw e
+    marked : (x : Option ℕ) (v : ℕ) → v ≡ number_in x → ((u : ℕ) → x ≡ Some u → u < none) → cond (ltb v none) (Some v) None ≡ x
+    marked (Some u) v e f = rw (e, lt-ltb u none (f u refl))
+    marked None v e f = rw e

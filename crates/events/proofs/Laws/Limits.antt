@@ -1,6 +1,7 @@
 -- Laws of specs/Limits. To cite: `checked_facts` (what an event within its limits has: `Limited`), `row_facts` (`Fits`), the
 -- facts of each kind (`creditor_facts` to `reversal_facts`), `kind_cases` (an event of known kind is of one of them), and
 -- `fields-narrow` (every field fits its column). Nothing but `unfolding table` looks at the rows. Assumes nothing.
+use Rattle.std.proofs.Common.{Err, None, Ok, Option, Result, Some}
 use mathlib.Core.Path.{◌≡◌, refl, sym, ◌∙◌, ap, subst}
 use mathlib.Core.Bool.{Bool, true, false, cond, ◌&&◌}
 use mathlib.Core.List.{List, [], ◌∷◌}
@@ -21,10 +22,6 @@ use Rattle.events.specs.declared.limits.Range.{Range}
 use Rattle.events.specs.declared.limits.SecondDate.{SecondDate}
 use Rattle.events.specs.declared.limits.SecondDate.TheVariants.{NoSecond, Dated, NotAfter}
 use Rattle.events.specs.declared.limits.Row.{Row}
-use Rattle.events.specs.declared.limits.RowAnswer.{RowAnswer}
-use Rattle.events.specs.declared.limits.RowAnswer.TheVariants.{Found, NoRow}
-use Rattle.events.specs.declared.limits.Checked.{Checked}
-use Rattle.events.specs.declared.limits.Checked.TheVariants.{Within, Refused}
 use Rattle.events.specs.Limits.{within, table, no_row, row, row_in, row_of, second_fits, row_fits, row_answer_fits, fields_fit, checked, kinds, unnamed, creditor, debtor, bank, number, cents, rate, mandate_codes, sequence_codes, refund_codes, last_kind, only}
 
 -- ---- ranges
@@ -81,15 +78,15 @@ abbrev pub every_row : (Row → Bool) → List Row → Bool
 every_row f [] = true
 every_row f (r ∷ rs) = f r && every_row f rs
 
-cond_found : (b : Bool) (r s : Row) (x : RowAnswer)
-    → cond b (Found r) x ≡ Found s
-    → ((b ≡ true) × (r ≡ s)) ⊎ (x ≡ Found s)
+cond_found : (b : Bool) (r s : Row) (x : Option Row)
+    → cond b (Some r) x ≡ Some s
+    → ((b ≡ true) × (r ≡ s)) ⊎ (x ≡ Some s)
 cond_found true r s x e = inl (refl, cc)
 cond_found false r s x e = inr e
 
 pub row_in_every : (f : Row → Bool) (rs : List Row) (kind code : ℕ) (s : Row)
     → every_row f rs ≡ true
-    → row_in rs kind code ≡ Found s
+    → row_in rs kind code ≡ Some s
     → f s ≡ true
 row_in_every f [] kind code s t e = let z : ◌≡◌ {A = ℕ} 0 1 = cc in absurd (omega arith)
 row_in_every f (r ∷ rs) kind code s t e =
@@ -98,7 +95,7 @@ row_in_every f (r ∷ rs) kind code s t e =
     (λ q. row_in_every f rs kind code s p.1 q)
     (cond_found (is_of kind code r) r s (row_in rs kind code) e)
 
-pub row_in_is_of : (rs : List Row) (kind code : ℕ) (s : Row) → row_in rs kind code ≡ Found s → is_of kind code s ≡ true
+pub row_in_is_of : (rs : List Row) (kind code : ℕ) (s : Row) → row_in rs kind code ≡ Some s → is_of kind code s ≡ true
 row_in_is_of [] kind code s e = let z : ◌≡◌ {A = ℕ} 0 1 = cc in absurd (omega arith)
 row_in_is_of (r ∷ rs) kind code s e =
     ⊎_elim (λ q. ap (is_of kind code) (sym q.1) ∙ q.0)
@@ -108,12 +105,12 @@ row_in_is_of (r ∷ rs) kind code s e =
 -- the same of the whole table
 pub row_of_every : (f : Row → Bool) (kind code : ℕ) (s : Row)
     → every_row f table ≡ true
-    → row_of kind code ≡ Found s
+    → row_of kind code ≡ Some s
     → f s ≡ true
 unfolding row_of
 row_of_every f kind code s t e = row_in_every f table kind code s t e
 
-pub row_of_codes : (kind code : ℕ) (s : Row) → row_of kind code ≡ Found s → Between s.codes code
+pub row_of_codes : (kind code : ℕ) (s : Row) → row_of kind code ≡ Some s → Between s.codes code
 unfolding row_of
 row_of_codes kind code s e = within_between _ _ (and_halves (eqb s.kind kind) (row_in_is_of table kind code s e)).1
 
@@ -121,7 +118,7 @@ row_of_codes kind code s e = within_between _ _ (and_halves (eqb s.kind kind) (r
 row_in_unknown : (rs : List Row) (kind code : ℕ)
     → every_row (λ r. within kinds r.kind) rs ≡ true
     → within kinds kind ≡ false
-    → row_in rs kind code ≡ NoRow
+    → row_in rs kind code ≡ None
 row_in_unknown [] kind code t h = refl
 row_in_unknown (r ∷ rs) kind code t h =
     let p = and_halves (within kinds r.kind) t in
@@ -158,14 +155,14 @@ module _ (kind code : ℕ) where
       → OnlyAt kind code i
       → r ≡ get_or table i no_row
       → is_of kind code r ≡ true
-      → row_of kind code ≡ Found r
+      → row_of kind code ≡ Some r
   only_hit i r o e t = o ∙ rw (← e, t)
 
   pub only_miss : (i : ℕ) (r : Row)
       → OnlyAt kind code i
       → r ≡ get_or table i no_row
       → is_of kind code r ≡ false
-      → row_of kind code ≡ NoRow
+      → row_of kind code ≡ None
   only_miss i r o e t = o ∙ rw (← e, t)
 
 amend_other : (code : ℕ) → (code ≡ 0 → ⊥) → OnlyAt 3 code 3
@@ -187,31 +184,31 @@ only_rest kind code l h t =
 
 -- ---- refusals 3, 4 and 5
 
-cond_within : (b : Bool) (x : Checked) (r : Refusal) → cond b x (Refused r) ≡ Within → (b ≡ true) × (x ≡ Within)
+cond_within : (b : Bool) (x : Result Unit Refusal) (r : Refusal) → cond b x (Err r) ≡ (Ok tt) → (b ≡ true) × (x ≡ (Ok tt))
 cond_within true x r e = (refl, e)
 cond_within false x r e = let z : ◌≡◌ {A = ℕ} 0 1 = cc in absurd (omega arith)
 
 -- the answer of `checked`, by the first check that fails
 module _ (e : Event) where
-  pub checked_kind : within kinds e.kind ≡ false → checked e ≡ Refused UnknownKind
+  pub checked_kind : within kinds e.kind ≡ false → checked e ≡ Err UnknownKind
   unfolding checked
   checked_kind p = rw p
 
-  pub checked_date : within kinds e.kind ≡ true → in_range e.date ≡ false → checked e ≡ Refused BadDate
+  pub checked_date : within kinds e.kind ≡ true → in_range e.date ≡ false → checked e ≡ Err BadDate
   unfolding checked
   checked_date p q = rw (p, q)
 
   pub checked_field : within kinds e.kind ≡ true
       → in_range e.date ≡ true
       → fields_fit e ≡ false
-      → checked e ≡ Refused BadField
+      → checked e ≡ Err BadField
   unfolding checked
   checked_field p q r = rw (p, q, r)
 
   pub checked_within : within kinds e.kind ≡ true
       → in_range e.date ≡ true
       → fields_fit e ≡ true
-      → checked e ≡ Within
+      → checked e ≡ (Ok tt)
   unfolding checked
   checked_within p q r = rw (p, q, r)
 
@@ -252,24 +249,24 @@ pub record Limited (e : Event) : Type 0 where
   pub kind : Between kinds e.kind
   pub date : in_range e.date ≡ true
   pub limits : Row
-  pub found : row_of e.kind e.code ≡ Found limits
+  pub found : row_of e.kind e.code ≡ Some limits
   pub fits : Fits limits e
 
 -- a row that was looked up, and that e fits
-record Looked (x : RowAnswer) (e : Event) : Type 0 where
+record Looked (x : Option Row) (e : Event) : Type 0 where
   limits : Row
-  found : x ≡ Found limits
+  found : x ≡ Some limits
   fits : Fits limits e
 
-answer_looked : (x : RowAnswer) (e : Event) → row_answer_fits x e ≡ true → Looked x e
-answer_looked NoRow e t = absurd (never t refl)
-answer_looked (Found r) e t = record { limits = r; found = refl; fits = row_facts r e t }
+answer_looked : (x : Option Row) (e : Event) → row_answer_fits x e ≡ true → Looked x e
+answer_looked None e t = absurd (never t refl)
+answer_looked (Some r) e t = record { limits = r; found = refl; fits = row_facts r e t }
 
 fields_looked : (e : Event) → fields_fit e ≡ true → Looked (row_of e.kind e.code) e
 unfolding fields_fit
 fields_looked e t = answer_looked (row_of e.kind e.code) e t
 
-pub checked_facts : (e : Event) → checked e ≡ Within → Limited e
+pub checked_facts : (e : Event) → checked e ≡ (Ok tt) → Limited e
 unfolding checked
 checked_facts e t =
     let p = cond_within (within kinds e.kind) _ _ t in
@@ -285,7 +282,7 @@ checked_facts e t =
 
 -- ---- the facts of each kind
 
-cond_one : (b : Bool) (r s : Row) → cond b (Found r) NoRow ≡ Found s → (b ≡ true) × (r ≡ s)
+cond_one : (b : Bool) (r s : Row) → cond b (Some r) None ≡ Some s → (b ≡ true) × (r ≡ s)
 cond_one true r s e = (refl, cc)
 cond_one false r s e = let z : ◌≡◌ {A = ℕ} 0 1 = cc in absurd (omega arith)
 
@@ -297,7 +294,7 @@ pub record Of (r : Row) (e : Event) : Type 0 where
 -- where the kind of e has but the row r, e is of r
 of_one : (e : Event) (r : Row)
     → (m : Limited e)
-    → cond (within r.codes e.code) (Found r) NoRow ≡ Found m.limits
+    → cond (within r.codes e.code) (Some r) None ≡ Some m.limits
     → Of r e
 of_one e r m t =
     let p = cond_one (within r.codes e.code) r m.limits t in
@@ -395,7 +392,7 @@ pub record CollectionField (e : Event) : Type 0 where
   pub collection : Between number e.a
 
 collection_of_lem : (e : Event) (k : ℕ)
-    → (row_of k e.code ≡ cond (within unnamed e.code) (Found (row k unnamed unnamed number unnamed unnamed unnamed NoSecond)) NoRow)
+    → (row_of k e.code ≡ cond (within unnamed e.code) (Some (row k unnamed unnamed number unnamed unnamed unnamed NoSecond)) None)
     → Limited e
     → e.kind ≡ k
     → CollectionField e

@@ -1,4 +1,5 @@
 -- Refusals 3, 4 and 5 in the paper's numbers. To cite: `limit_number_lem`; `by_limits`, the same by the three tests. Assumes nothing.
+use Rattle.std.proofs.Common.{Err, Ok}
 use mathlib.Core.Path.{◌≡◌, refl}
 use mathlib.Core.Bool.{Bool, true, false}
 use mathlib.Core.List.{[], ◌∷◌}
@@ -6,10 +7,9 @@ use Rattle.common.specs.Checks.{check, judged}
 use Rattle.calendar.specs.Gregorian.{in_range}
 use Rattle.refusals.specs.declared.Refusal.TheVariants.{UnknownKind, BadDate, BadField}
 use Rattle.events.specs.declared.Event.{Event}
-use Rattle.events.specs.declared.limits.Checked.TheVariants.{Within, Refused}
 use Rattle.events.specs.Limits.{within, kinds, fields_fit, checked, checked_number, limit_number}
 
-pub by_limits : (kind date fields : Bool) → checked_number (judged (check kind (Refused UnknownKind) ∷ check date (Refused BadDate) ∷ check fields (Refused BadField) ∷ []) Within) ≡ judged (check kind 3 ∷ check date 4 ∷ check fields 5 ∷ []) 0
+pub by_limits : (kind date fields : Bool) → checked_number (judged (check kind (Err UnknownKind) ∷ check date (Err BadDate) ∷ check fields (Err BadField) ∷ []) (Ok tt)) ≡ judged (check kind 3 ∷ check date 4 ∷ check fields 5 ∷ []) 0
 by_limits false date fields = refl
 by_limits true false fields = refl
 by_limits true true false = refl

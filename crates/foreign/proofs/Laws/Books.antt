@@ -1,5 +1,6 @@
 -- Laws of specs/Books: the calls over lent cells, from those of the book. To cite: `open_refused`, `open_done`, `book_refused`,
 -- `event_done`, `replay_refused`, `replay_done`. Assumes nothing.
+use Rattle.std.proofs.Common.{Err, Ok, Result}
 use mathlib.Core.Path.{◌≡◌, refl, ap, subst, ◌∙◌}
 use mathlib.Core.Bool.{Bool, true, false, ◌&&◌}
 use mathlib.Core.List.{List, [], ◌∷◌}
@@ -9,8 +10,6 @@ use Rattle.common.proofs.Tests.{and_halves, never}
 use Rattle.events.specs.declared.Event.{Event}
 use Rattle.tables.specs.declared.Header.{Header}
 use Rattle.tables.specs.Ledger.{Ledger, ledger}
-use Rattle.opening.specs.declared.OpenAnswer.{OpenAnswer}
-use Rattle.opening.specs.declared.OpenAnswer.TheVariants.{Opened, Refused}
 use Rattle.opening.specs.declared.OpenOutcome.{OpenOutcome}
 use Rattle.opening.specs.Opening.{OpenResult, open_number, open_result, opening, fresh}
 use Rattle.opening.proofs.Laws.Opening.{opening_refused, opened_done}
@@ -22,6 +21,7 @@ use Rattle.replay.proofs.Laws.Replay.{was_opened, was_refused}
 use Rattle.cells.specs.Cells.{cells_fit, event_cells_fit, cells_event, header_in, header_state, header_cents, fresh_header, head_of}
 use Rattle.cells.proofs.Laws.Cells.{state_cells_fit_lem, fresh_state_lem, fresh_cents_lem, header_back}
 use Rattle.foreign.specs.Books.{OpeningPut, OutcomePut, ReplayPut, OpenCall, BookCall, EventCall, ReplayCall}
+use Rattle.refusals.specs.declared.Refusal.{Refusal}
 
 -- the tables of a ledger under another header
 abbrev pub under : Header → Ledger → Ledger
@@ -105,11 +105,11 @@ module _ (state : List ℕ) (cents : List ℤ) (l : Ledger) where
   -- l' is the ledger of the header that the opening leaves
   module _ (f : cells_fit state cents ≡ true) (l' : Ledger) (r : ℕ) (state' : List ℕ) (cents' : List ℤ) where
     by_answer :
-        (a : OpenAnswer) → open_result (open_number a) l' ≡ opening l → OpeningPut a state cents r state' cents'
+        (a : Result Unit Refusal) → open_result (open_number a) l' ≡ opening l → OpeningPut a state cents r state' cents'
         → header_in state cents ≡ head_of l → OpenCall state cents l r state' cents' (under (header_in state' cents') l')
     unfolding fresh
-    by_answer Opened e put held =
-        let w = was_opened l l' Opened e refl in
+    by_answer (Ok tt) e put held =
+        let w = was_opened l l' (Ok tt) e refl in
         let s = put.state_is ∙ fresh_state_lem state (state_cells_fit_lem state cents f) in
         let z = put.cents_is ∙ fresh_cents_lem state cents f in
         record {
@@ -122,8 +122,8 @@ module _ (state : List ℕ) (cents : List ℤ) (l : Ledger) where
               ∙ ap (λ (x : List ℤ). under (header_in (0 ∷ 0 ∷ 0 ∷ 0 ∷ 0 ∷ 0 ∷ 0 ∷ []) x) l') z
               ∙ ap (under fresh_header) (w.is ∙ opened_done l w.sizes));
         }
-    by_answer (Refused x) e put held =
-        let w = was_refused l l' (Refused x) e x refl in
+    by_answer (Err x) e put held =
+        let w = was_refused l l' (Err x) e x refl in
         let s = put.state_is in
         let z = put.cents_is in
         record {
@@ -140,7 +140,7 @@ module _ (state : List ℕ) (cents : List ℤ) (l : Ledger) where
 
     pub open_done :
         (h : Header) → h ≡ header_in state cents → header_in state cents ≡ head_of l
-        → (a : OpenAnswer) → open_result (open_number a) l' ≡ opening (under h l)
+        → (a : Result Unit Refusal) → open_result (open_number a) l' ≡ opening (under h l)
         → OpeningPut a state cents r state' cents'
         → OpenCall state cents l r state' cents' (under (header_in state' cents') l')
     open_done h hi held a e put = by_answer a (e ∙ ap (λ (x : Header). opening (under x l)) (hi ∙ held)) put held

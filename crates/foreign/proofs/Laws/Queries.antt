@@ -1,4 +1,5 @@
 -- Laws of specs/Queries: the query over lent cells, from the book's. To cite: `query_refused`, `query_done`. Assumes nothing.
+use Rattle.std.proofs.Common.{Result, ℤ}
 use mathlib.Core.Path.{◌≡◌, refl, ap, subst, ◌∙◌}
 use mathlib.Core.Bool.{Bool, true, false, cond, ◌&&◌}
 use mathlib.Core.List.{List}
@@ -8,12 +9,12 @@ use lib.ListN.{set}
 use Rattle.tables.specs.declared.Header.{Header}
 use Rattle.tables.specs.Ledger.{Ledger}
 use Rattle.fitness.specs.Fitness.{fit}
-use Rattle.model.specs.declared.QueryAnswer.{QueryAnswer}
 use Rattle.model.specs.Step.{in_query, figure_of, query, query_number}
 use Rattle.book.specs.Events.{Queried}
 use Rattle.cells.specs.Cells.{cells_fit, header_in, figure_cents, head_of}
 use Rattle.foreign.specs.Queries.{QueryCall}
 use Rattle.foreign.proofs.Laws.Books.{under}
+use Rattle.refusals.specs.declared.Refusal.{Refusal}
 
 module _ (state : List ℕ) (cents : List ℤ) (l : Ledger) (kind number : ℕ) where
   pub query_refused : cells_fit state cents ≡ false → QueryCall state cents l kind number 2 cents
@@ -31,12 +32,12 @@ module _ (state : List ℕ) (cents : List ℤ) (l : Ledger) (kind number : ℕ) 
   pub query_done :
       cells_fit state cents ≡ true
       → (h : Header) → h ≡ header_in state cents → header_in state cents ≡ head_of l
-      → (a : QueryAnswer) → Queried (under h l) kind number a
+      → (a : Result ℤ Refusal) → Queried (under h l) kind number a
       → (r : ℕ) (cents' : List ℤ) → r ≡ query_number a → cents' ≡ figure_cents a cents
       → QueryCall state cents l kind number r cents'
   query_done f h hi held a queried r cents' n z =
       let q = subst (λ (x : Header). Queried (under x l) kind number a) (hi ∙ held) queried in
-      let put = z ∙ ap (λ (x : QueryAnswer). figure_cents x cents) q.answer_is in
+      let put = z ∙ ap (λ (x : Result ℤ Refusal). figure_cents x cents) q.answer_is in
       record {
         answer_is = rw f (n ∙ ap query_number q.answer_is);
         cents_is = rw f put;

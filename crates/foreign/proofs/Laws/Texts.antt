@@ -1,5 +1,6 @@
 -- Laws of specs/Texts: the calls over lent cells, from those of crates/text and crates/listing. To cite: `text_refused`, `text_done`,
 -- `end_refused`, `end_done`, `list_refused`, `list_done`. Assumes nothing.
+use Rattle.std.proofs.Common.{Err, Ok, Result}
 use mathlib.Core.Path.{◌≡◌, refl, ap, subst, ◌∙◌}
 use mathlib.Core.Bool.{Bool, true, false, cond, ◌&&◌}
 use mathlib.Core.List.{List}
@@ -8,9 +9,8 @@ use lib.IntN.{ℤ}
 use lib.ListN.{length, take}
 use Rattle.tables.specs.declared.Header.{Header}
 use Rattle.tables.specs.Ledger.{Ledger}
+use Rattle.refusals.specs.declared.Refusal.{Refusal}
 use Rattle.refusals.specs.declared.Refusal.TheVariants.{UnfitMemory}
-use Rattle.model.specs.declared.Answer.{Answer}
-use Rattle.model.specs.declared.Answer.TheVariants.{Accepted, Refused}
 use Rattle.model.specs.Step.{answer_number, is_accepted}
 use Rattle.run.specs.Run.{Run, end_lines, end_bytes, positions_output}
 use Rattle.listing.specs.declared.ending.Ending.{Ending}
@@ -45,10 +45,10 @@ module _ (state : List ℕ) (cents : List ℤ) (f : cells_fit state cents ≡ tr
   RanBy fits s t n = Ran fits s t n state cents l text out r state' cents' (under (header_in state' cents') l') text' out'
 
   -- what was written of an answer
-  state_by : (a : Answer) → p.answer ≡ a → state' ≡ cond (is_accepted a) (counts_state counts (header_state p.header state)) state
+  state_by : (a : Result Unit Refusal) → p.answer ≡ a → state' ≡ cond (is_accepted a) (counts_state counts (header_state p.header state)) state
   state_by a e = put.state_is ∙ rw e
 
-  cents_by : (a : Answer) → p.answer ≡ a → cents' ≡ cond (is_accepted a) (header_cents p.header cents) cents
+  cents_by : (a : Result Unit Refusal) → p.answer ≡ a → cents' ≡ cond (is_accepted a) (header_cents p.header cents) cents
   cents_by a e = put.cents_is ∙ rw e
 
   -- the counts that were written are those of the run
@@ -58,8 +58,8 @@ module _ (state : List ℕ) (cents : List ℤ) (f : cells_fit state cents ≡ tr
   ran : (fits : Bool) (s : Run) (t : List ℕ) → Done fits s t → text' ≡ text_after fits s text → RanBy fits s t past
   ran true s t done e =
       let header = left ∙ ap head_of done.book_is in
-      let state-put = state_by Accepted done.answer_is ∙ state_whole state (state_cells_fit_lem state cents f) p.header counts in
-      let cents-put = cents_by Accepted done.answer_is in
+      let state-put = state_by (Ok tt) done.answer_is ∙ state_whole state (state_cells_fit_lem state cents f) p.header counts in
+      let cents-put = cents_by (Ok tt) done.answer_is in
       record {
         answer_is = put.answer_is ∙ ap answer_number done.answer_is;
         state_is =
@@ -76,8 +76,8 @@ module _ (state : List ℕ) (cents : List ℤ) (f : cells_fit state cents ≡ tr
         out_is = done.out_is;
       }
   ran false s t done e =
-      let state-put = state_by (Refused UnfitMemory) done.answer_is in
-      let cents-put = cents_by (Refused UnfitMemory) done.answer_is in
+      let state-put = state_by (Err UnfitMemory) done.answer_is in
+      let cents-put = cents_by (Err UnfitMemory) done.answer_is in
       record {
         answer_is = put.answer_is ∙ ap answer_number done.answer_is;
         state_is = state-put;
@@ -117,7 +117,7 @@ module _ (state out : List ℕ) where
       (u : EndTaken (lines_in state) (filled_in state) out e out') (r : ℕ) (state' : List ℕ) (put : EndingPut e past state r state') where
     end_by : (fits : Bool) → end_fits out ≡ fits → EndDone fits state out r state' out'
     end_by true i =
-        let a : e.answer ≡ Accepted = u.answer_is ∙ rw i in
+        let a : e.answer ≡ (Ok tt) = u.answer_is ∙ rw i in
         let lines : e.lines ≡ end_lines (lines_in state) (filled_in state) = u.lines_are ∙ rw i in
         let written : e.written ≡ length (end_bytes (lines_in state) (filled_in state)) = u.written_is ∙ rw i in
         record {
@@ -126,7 +126,7 @@ module _ (state out : List ℕ) where
           out_is = u.out_is ∙ rw i;
         }
     end_by false i =
-        let a : e.answer ≡ Refused UnfitMemory = u.answer_is ∙ rw i in
+        let a : e.answer ≡ Err UnfitMemory = u.answer_is ∙ rw i in
         record { answer_is = put.answer_is ∙ ap answer_number a; state_is = put.state_is ∙ rw a; out_is = u.out_is ∙ rw i }
 
   pub end_done :
@@ -150,11 +150,11 @@ module _ (state : List ℕ) (cents : List ℤ) (l : Ledger) (out : List ℕ) whe
   module _ (p : Listing) (out' : List ℕ) (u : Listed l out p out') (r : ℕ) (state' : List ℕ) (put : ListingPut p state r state') where
     list_by : (fits : Bool) → listed l out ≡ fits → ListingDone fits state l out r state' out'
     list_by true i =
-        let a : p.answer ≡ Accepted = u.answer_is ∙ rw i in
+        let a : p.answer ≡ (Ok tt) = u.answer_is ∙ rw i in
         let bytes : p.bytes ≡ length (positions_output l) = u.bytes_are ∙ rw i in
         record { answer_is = put.answer_is ∙ ap answer_number a; state_is = put.state_is ∙ rw (a, bytes); out_is = u.out_is ∙ rw i }
     list_by false i =
-        let a : p.answer ≡ Refused UnfitMemory = u.answer_is ∙ rw i in
+        let a : p.answer ≡ Err UnfitMemory = u.answer_is ∙ rw i in
         record { answer_is = put.answer_is ∙ ap answer_number a; state_is = put.state_is ∙ rw a; out_is = u.out_is ∙ rw i }
 
   pub list_done :

@@ -1,5 +1,6 @@
 -- An index followed. To cite: `index_holds`, which is `IndexHolds`; `indexed_made`, `indexed_kept`; for a loop
 -- `follow_start`, `follow_none`, `follow_end`, `follow_hit`, `follow_next`. Assumes nothing.
+use Rattle.std.proofs.Common.{None, Option, Some, ℕ}
 use mathlib.Core.Path.{◌≡◌, refl, sym, ap, ◌∙◌}
 use mathlib.Core.Bool.{true, false}
 use mathlib.Core.List.{List}
@@ -13,8 +14,6 @@ use lib.Dec.{ltb}
 use lib.ListN.{get_or}
 use Rattle.common.proofs.Tests.{true_or_false}
 use Rattle.common.proofs.Walk.{cases_from}
-use Rattle.tables.specs.declared.Found.{Found}
-use Rattle.tables.specs.declared.Found.TheVariants.{At, Nothing}
 use Rattle.tables.specs.Lookup.{number_at, number_is}
 use Rattle.tables.proofs.Laws.Lookup.{Grown, lookup_since_lem}
 use Rattle.index.specs.Index.{row_limit, slot_of, in_slot, marked, row_from, covered, index_of, covered_by, next_row, follow, first_row, Indexed, IndexHolds}
@@ -93,8 +92,8 @@ module _ (table cells : List ℕ) (rows number : ℕ)
   unfolding row_from
   passed_from zero i h below = rw (follow_end index cells number (row_from table n (slot_of number) i)) (none_left i (omega arith) below)
   passed_from (suc left) i h below =
-      cases_from (in_slot table (slot_of number)) At Nothing
-      (λ (f : Found). Passed cells number n (follow index cells number (suc left) (marked f)))
+      cases_from (in_slot table (slot_of number)) Some None
+      (λ (f : Option ℕ). Passed cells number n (follow index cells number (suc left) (marked f)))
       i (n - i)
       (λ q lo hi own between.
       let b : q < n = omega arith in

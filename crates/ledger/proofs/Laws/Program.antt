@@ -1,5 +1,6 @@
 -- Laws of specs/Program. To cite: `begins_opened`, `rows_lent`; `last_inside`, `last_total`, `finished_made`, `finished_output`; `room_after`,
 -- `shown_after`. Assumes nothing.
+use Rattle.std.proofs.Common.{Ok, Result}
 use mathlib.Core.Path.{◌≡◌, refl, sym, ap, subst, ◌∙◌}
 use mathlib.Core.Bool.{Bool, true, false, cond}
 use mathlib.Core.List.{List, [], ◌++◌, append-nil}
@@ -14,15 +15,12 @@ use lib.ListN.{length, take, drop, replicate, length-replicate, length-append, l
 use lib.Seq.{take-append_seam, drop-length, drop-drop, length-take-le}
 use Rattle.common.proofs.Tests.{true_unless, and_true}
 use Rattle.digits.specs.Field.{pasted}
-use Rattle.opening.specs.declared.OpenAnswer.{OpenAnswer}
-use Rattle.opening.specs.declared.OpenAnswer.TheVariants.{Opened}
 use Rattle.tables.specs.Limits.{stride}
 use Rattle.tables.specs.Rows.{rows}
 use Rattle.tables.specs.Ledger.{Ledger}
 use Rattle.fitness.specs.Fitness.{fit, sizes_fit}
 use Rattle.opening.specs.Opening.{OpenResult, open_number, open_result, opening}
 use Rattle.opening.proofs.Laws.Opening.{opening_done, opened_done}
-use Rattle.model.specs.declared.QueryAnswer.TheVariants.{Figure}
 use Rattle.model.specs.Step.{in_query, query, query_number}
 use Rattle.model.proofs.Laws.Answers.{query_answers, opening_answers}
 use Rattle.listing.specs.declared.ending.Ending.{Ending}
@@ -41,13 +39,14 @@ use Rattle.run.proofs.Laws.Program.{program_kept}
 use Rattle.ledger.specs.Input.{InputTaken}
 use Rattle.ledger.specs.Program.{mandate_rows, collection_rows, Begins, LastRoom, last_output, Finished, Shown}
 use Rattle.ledger.proofs.Laws.Input.{front_length, less_le}
+use Rattle.refusals.specs.declared.Refusal.{Refusal}
 
 -- ---- the start
 
 -- the tables t were opened
-pub begins_opened : (t l : Ledger) (answer : OpenAnswer)
+pub begins_opened : (t l : Ledger) (answer : Result Unit Refusal)
     → open_result (open_number answer) l ≡ opening t
-    → answer ≡ Opened
+    → answer ≡ (Ok tt)
     → rows t.mandates ≡ mandate_rows
     → rows t.collections ≡ collection_rows
     → Begins l
@@ -147,7 +146,7 @@ text_kept : (l : Ledger) → Begins l → (input : List ℕ) → TextKept l (ans
 text_kept l b input = rw b.is_opened (program_kept b.tables b.accepted input)
 
 -- a ledger that answers a query is fit
-answers_fit : (l : Ledger) (kind number : ℕ) (z : ℤ) → query l kind number ≡ Figure z → fit l ≡ true
+answers_fit : (l : Ledger) (kind number : ℕ) (z : ℤ) → query l kind number ≡ Ok z → fit l ≡ true
 answers_fit l kind number z e =
     let n : ◌≡◌ {A = ℕ} (cond (fit l) (cond (in_query kind number) 0 5) 2) 0 = sym (query_answers l kind number).number_is ∙ ap query_number e in
     true_unless (fit l) (λ f. let x : ◌≡◌ {A = ℕ} 2 0 = rw f at n in omega arith)

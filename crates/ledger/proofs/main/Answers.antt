@@ -6,4 +6,4 @@ use Prim.Native.Nat.{◌*◌}
 use Rattle.ledger.proofs.main.Goals as goal
 
 pub run-requires : goal.run-requires
-run-requires c = begins_opened _ _ _ c.open_ledger-opened.ensures c.in-Opened.is (rows_lent (mandate_rows * stride)) (rows_lent (collection_rows * stride))
+run-requires c = begins_opened _ _ _ c.open_ledger-opened.ensures c.in-Ok.is (rows_lent (mandate_rows * stride)) (rows_lent (collection_rows * stride))

@@ -1,6 +1,7 @@
 -- Laws of specs/Line. To cite, of fields one after the other: `read_fields_fields_bytes` and `fields_bytes_read_fields` (reading and
 -- writing undo each other); of a line: `narrow_fields` (every limit fits its column). The rest serves the functions of src/line.rt.
 -- Assumes nothing.
+use Rattle.std.proofs.Common.{Err, None, Ok, Option, Result, Some, ℕ}
 use mathlib.Core.Path.{◌≡◌, refl, sym, ◌∙◌, ap, subst}
 use mathlib.Core.Bool.{Bool, true, ◌&&◌}
 use mathlib.Core.List.{List, [], ◌∷◌, ◌++◌, append_assoc, append-nil}
@@ -18,11 +19,6 @@ use Rattle.events.specs.declared.Event.{Event}
 use Rattle.events.specs.declared.limits.Row.{Row}
 use Rattle.refusals.specs.declared.Refusal.{Refusal}
 use Rattle.refusals.specs.declared.Refusal.TheVariants.{BadLine, UnfitMemory}
-use Rattle.lines.specs.declared.line.LineAnswer.{LineAnswer}
-use Rattle.lines.specs.declared.line.LineAnswer.TheVariants as lines
-use Rattle.lines.specs.declared.line.WriteAnswer.TheVariants as writes
-use Rattle.digits.specs.declared.reading.FieldAnswer.{FieldAnswer}
-use Rattle.digits.specs.declared.reading.FieldAnswer.TheVariants.{Value, NoValue}
 use Rattle.events.proofs.Laws.Limits.{Limited, every_row, row_of_every, row_of_codes, second_le}
 use Rattle.events.specs.Limits.{table, last_kind, checked}
 use Rattle.digits.specs.Field.{blank, field_bytes, read_field, has_room, field_at}
@@ -62,7 +58,7 @@ read_fields_fields_bytes (w ∷ ws) [] p r at h n = absurd n
 read_fields_fields_bytes (w ∷ ws) (v ∷ vs) p r at h n =
     let q : List ℕ = fields_bytes ws vs ++ r in
     let a : (field_bytes w v ++ fields_bytes ws vs) ++ r ≡ field_bytes w v ++ q = append_assoc (field_bytes w v) (fields_bytes ws vs) r in
-    let here : read_field (take w (drop at (p ++ (field_bytes w v ++ q)))) ≡ Value v =
+    let here : read_field (take w (drop at (p ++ (field_bytes w v ++ q)))) ≡ Some v =
     rw (drop_at p (field_bytes w v ++ q) at h, take_at (field_bytes w v) q w (length_signed_field w blank v))
     (read_field_field_bytes w v n.0 n.1) in
     let after : read_fields ws (at + w) (p ++ (field_bytes w v ++ q)) ≡ Values vs =
@@ -72,17 +68,17 @@ read_fields_fields_bytes (w ∷ ws) (v ∷ vs) p r at h n =
     n.2) in
     rw (a, here, after)
 
-record Joined (a : FieldAnswer) (f : Fields) (vs : List ℕ) : Type 0 where
+record Joined (a : Option ℕ) (f : Fields) (vs : List ℕ) : Type 0 where
   value : ℕ
   rest : List ℕ
-  here : a ≡ Value value
+  here : a ≡ Some value
   after : f ≡ Values rest
   whole : value ∷ rest ≡ vs
 
-joined_values : (a : FieldAnswer) (f : Fields) (vs : List ℕ) → joined a f ≡ Values vs → Joined a f vs
-joined_values NoValue f vs e = let z : ◌≡◌ {A = ℕ} 0 1 = cc in absurd (omega arith)
-joined_values (Value v) Unreadable vs e = let z : ◌≡◌ {A = ℕ} 0 1 = cc in absurd (omega arith)
-joined_values (Value v) (Values rest) vs e = record { value = v; rest = rest; here = refl; after = refl; whole = cc }
+joined_values : (a : Option ℕ) (f : Fields) (vs : List ℕ) → joined a f ≡ Values vs → Joined a f vs
+joined_values None f vs e = let z : ◌≡◌ {A = ℕ} 0 1 = cc in absurd (omega arith)
+joined_values (Some v) Unreadable vs e = let z : ◌≡◌ {A = ℕ} 0 1 = cc in absurd (omega arith)
+joined_values (Some v) (Values rest) vs e = record { value = v; rest = rest; here = refl; after = refl; whole = cc }
 
 -- writing the fields that were read gives their bytes
 pub fields_bytes_read_fields : (ws : List ℕ) (at : ℕ) (l vs : List ℕ)
@@ -213,11 +209,11 @@ cells_stored e l h = ap (λ (m : List ℕ). stored m 0 (fields_of e)) (sym (fiel
 -- fields with the values vs before them
 abbrev pub after : List ℕ → Fields → Fields
 after [] f = f
-after (v ∷ vs) f = joined (Value v) (after vs f)
+after (v ∷ vs) f = joined (Some v) (after vs f)
 
-after_joined : (vs : List ℕ) (v : ℕ) (f : Fields) → after vs (joined (Value v) f) ≡ after (vs ++ (v ∷ [])) f
+after_joined : (vs : List ℕ) (v : ℕ) (f : Fields) → after vs (joined (Some v) f) ≡ after (vs ++ (v ∷ [])) f
 after_joined [] v f = refl
-after_joined (u ∷ vs) v f = ap (joined (Value u)) (after_joined vs v f)
+after_joined (u ∷ vs) v f = ap (joined (Some u)) (after_joined vs v f)
 
 after_unreadable : (vs : List ℕ) → after vs Unreadable ≡ Unreadable
 after_unreadable [] = refl
@@ -232,22 +228,22 @@ module _ (vs ws l : List ℕ) (at w : ℕ) (h : length l ≡ line_length) (fits 
 
   -- where it was read, it joins those before it
   pub after_value : (v : ℕ)
-      → field_at at w l ≡ Value v
+      → field_at at w l ≡ Some v
       → after vs (read_fields (w ∷ ws) at l) ≡ after (vs ++ (v ∷ [])) (read_fields ws (at + w) l)
   after_value v e =
-      ap (λ (a : FieldAnswer). after vs (joined a (read_fields ws (at + w) l))) (sym field_is ∙ e)
+      ap (λ (a : Option ℕ). after vs (joined a (read_fields ws (at + w) l))) (sym field_is ∙ e)
       ∙ after_joined vs v (read_fields ws (at + w) l)
 
   -- where it cannot be read, nothing is left
-  pub after_none : field_at at w l ≡ NoValue → after vs (read_fields (w ∷ ws) at l) ≡ Unreadable
+  pub after_none : field_at at w l ≡ None → after vs (read_fields (w ∷ ws) at l) ≡ Unreadable
   after_none e =
-      ap (λ (a : FieldAnswer). after vs (joined a (read_fields ws (at + w) l))) (sym field_is ∙ e) ∙ after_unreadable vs
+      ap (λ (a : Option ℕ). after vs (joined a (read_fields ws (at + w) l))) (sym field_is ∙ e) ∙ after_unreadable vs
 
 -- what is answered and what the cells hold, where the answer of a line is known
-pub cells_answer : (cells : List ℕ) (a b : LineAnswer)
+pub cells_answer : (cells : List ℕ) (a b : Result Event Refusal)
     → a ≡ b
     → (checked_line b ≡ checked_line a) × (cells_by b cells ≡ cells_by a cells)
-cells_answer cells a b p = (ap checked_line (sym p), ap (λ (x : LineAnswer). cells_by x cells) (sym p))
+cells_answer cells a b p = (ap checked_line (sym p), ap (λ (x : Result Event Refusal). cells_by x cells) (sym p))
 
 -- ---- a line written field by field
 
@@ -272,11 +268,11 @@ line_of_written e out now w = written_front _ line_length out now w ∙ simp (ap
 -- ---- read_line, write_answer, bytes_after
 
 module _ (l : List ℕ) where
-  pub read_line_length : (length l ≡ line_length → ⊥) → read_line l ≡ lines.Refused BadLine
+  pub read_line_length : (length l ≡ line_length → ⊥) → read_line l ≡ Err BadLine
   unfolding read_line
   read_line_length n = rw (ne_eqb (length l) line_length n)
 
-  pub read_line_end : length l ≡ line_length → (get_or l columns 0 ≡ line_end → ⊥) → read_line l ≡ lines.Refused BadLine
+  pub read_line_end : length l ≡ line_length → (get_or l columns 0 ≡ line_end → ⊥) → read_line l ≡ Err BadLine
   unfolding read_line
   read_line_end e n = rw (eq-eqb (length l) line_length e, ne_eqb (get_or l columns 0) line_end n)
 
@@ -285,7 +281,7 @@ module _ (l : List ℕ) where
   read_line_fields e g = rw (eq-eqb (length l) line_length e, eq-eqb (get_or l columns 0) line_end g)
 
 module _ (e : Event) (out : List ℕ) where
-  pub write_answer_short : length out < line_length → write_answer e out ≡ writes.Refused UnfitMemory
+  pub write_answer_short : length out < line_length → write_answer e out ≡ Err UnfitMemory
   unfolding write_answer
   write_answer_short h = rw (lt-leb line_length (length out) h)
 
@@ -293,10 +289,10 @@ module _ (e : Event) (out : List ℕ) where
   unfolding write_answer checked
   write_answer_checked h = rw (le-leb line_length (length out) h)
 
-  pub bytes_after_refused : (r : Refusal) → write_answer e out ≡ writes.Refused r → bytes_after e out ≡ out
+  pub bytes_after_refused : (r : Refusal) → write_answer e out ≡ Err r → bytes_after e out ≡ out
   unfolding bytes_after
   bytes_after_refused r p = rw p
 
-  pub bytes_after_written : write_answer e out ≡ writes.Written → bytes_after e out ≡ line_of e ++ drop line_length out
+  pub bytes_after_written : write_answer e out ≡ (Ok tt) → bytes_after e out ≡ line_of e ++ drop line_length out
   unfolding bytes_after
   bytes_after_written p = rw p

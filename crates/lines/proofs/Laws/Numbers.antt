@@ -1,4 +1,5 @@
 -- The answers in the paper's numbers. To cite: `reader_number_lem`, `writer_number_lem`, `checked_line_number`. Assumes nothing.
+use Rattle.std.proofs.Common.{Err, Ok, Result}
 use mathlib.Core.Path.{◌≡◌, refl, ◌∙◌}
 use mathlib.Core.Bool.{Bool, true, false, cond, ◌&&◌}
 use mathlib.Core.List.{List, [], ◌∷◌}
@@ -7,27 +8,24 @@ use lib.Dec.{eqb, leb}
 use lib.ListN.{length, get_or}
 use Rattle.common.specs.Checks.{check, judged}
 use Rattle.calendar.specs.Gregorian.{in_range}
+use Rattle.refusals.specs.declared.Refusal.{Refusal}
 use Rattle.refusals.specs.declared.Refusal.TheVariants.{BadLine, UnfitMemory, UnknownKind, BadDate, BadField}
 use Rattle.events.specs.declared.Event.{Event}
-use Rattle.events.specs.declared.limits.Checked.{Checked}
-use Rattle.events.specs.declared.limits.Checked.TheVariants.{Within, Refused}
-use Rattle.lines.specs.declared.line.LineAnswer.{LineAnswer}
-use Rattle.lines.specs.declared.line.LineAnswer.TheVariants as lines
 use Rattle.events.proofs.Laws.Numbers.{by_limits, limit_number_lem}
 use Rattle.events.specs.Limits.{within, kinds, fields_fit, limit_checks, checked, checked_number}
 use Rattle.lines.specs.Line.{widths, event_of, columns, line_length, line_end, Fields, Values, Unreadable, read_fields, answer_of, taken, read_line, checked_line, written_of, write_answer, line_number, write_number, fields_number, reader_number, writer_number}
 
 -- ---- the reader
 
-answer_number_lem : (e : Event) (c : Checked) → line_number (answer_of e c) ≡ checked_number c
-answer_number_lem e Within = refl
-answer_number_lem e (Refused r) = refl
+answer_number_lem : (e : Event) (c : Result Unit Refusal) → line_number (answer_of e c) ≡ checked_number c
+answer_number_lem e (Ok tt) = refl
+answer_number_lem e (Err r) = refl
 
 taken_number : (f : Fields) → line_number (taken f) ≡ fields_number f
 taken_number Unreadable = refl
 taken_number (Values vs) = answer_number_lem (event_of vs) (checked (event_of vs)) ∙ limit_number_lem (event_of vs)
 
-by_line : (b : Bool) (f : Fields) → line_number (cond b (taken f) (lines.Refused BadLine)) ≡ cond b (fields_number f) 1
+by_line : (b : Bool) (f : Fields) → line_number (cond b (taken f) (Err BadLine)) ≡ cond b (fields_number f) 1
 by_line true f = taken_number f
 by_line false f = refl
 
@@ -35,22 +33,22 @@ pub reader_number_lem : (l : List ℕ) → line_number (read_line l) ≡ reader_
 unfolding read_line reader_number
 reader_number_lem l = by_line (eqb (length l) line_length && eqb (get_or l columns 0) line_end) (read_fields widths 0 l)
 
-pub checked_line_number : (a : LineAnswer) → checked_number (checked_line a) ≡ line_number a
-checked_line_number (lines.Taken e) = refl
-checked_line_number (lines.Refused r) = refl
+pub checked_line_number : (a : Result Event Refusal) → checked_number (checked_line a) ≡ line_number a
+checked_line_number (Ok e) = refl
+checked_line_number (Err r) = refl
 
 -- ---- the writer
 
-written : (c : Checked) → write_number (written_of c) ≡ checked_number c
-written Within = refl
-written (Refused r) = refl
+written : (c : Result Unit Refusal) → write_number (written_of c) ≡ checked_number c
+written (Ok tt) = refl
+written (Err r) = refl
 
-by_room : (b kind date fields : Bool) → checked_number (judged (check b (Refused UnfitMemory) ∷ check kind (Refused UnknownKind) ∷ check date (Refused BadDate) ∷ check fields (Refused BadField) ∷ []) Within) ≡ judged (check b 2 ∷ check kind 3 ∷ check date 4 ∷ check fields 5 ∷ []) 0
+by_room : (b kind date fields : Bool) → checked_number (judged (check b (Err UnfitMemory) ∷ check kind (Err UnknownKind) ∷ check date (Err BadDate) ∷ check fields (Err BadField) ∷ []) (Ok tt)) ≡ judged (check b 2 ∷ check kind 3 ∷ check date 4 ∷ check fields 5 ∷ []) 0
 by_room false kind date fields = refl
 by_room true kind date fields = by_limits kind date fields
 
 pub writer_number_lem : (e : Event) (out : List ℕ) → write_number (write_answer e out) ≡ writer_number e out
 unfolding write_answer writer_number
 writer_number_lem e out =
-    written (judged (check (leb line_length (length out)) (Refused UnfitMemory) ∷ limit_checks e) Within)
+    written (judged (check (leb line_length (length out)) (Err UnfitMemory) ∷ limit_checks e) (Ok tt))
     ∙ by_room (leb line_length (length out)) (within kinds e.kind) (in_range e.date) (fields_fit e)

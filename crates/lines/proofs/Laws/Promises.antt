@@ -1,5 +1,6 @@
 -- The promises of specs/Promises, proved: each theorem has the name of its statement. And of the reader into cells, to cite:
 -- `cells_taken` and `cells_refused`. Assumes nothing.
+use Rattle.std.proofs.Common.{Err, Ok, Result}
 use mathlib.Core.Path.{◌≡◌, refl, sym, ◌∙◌, ap}
 use mathlib.Core.Bool.{Bool, true, false, cond, ◌&&◌}
 use mathlib.Core.List.{List, [], ◌∷◌, ◌++◌}
@@ -14,10 +15,6 @@ use Rattle.calendar.specs.Gregorian.{in_range}
 use Rattle.refusals.specs.declared.Refusal.{Refusal}
 use Rattle.refusals.specs.declared.Refusal.TheVariants.{BadLine, UnfitMemory, UnknownKind, BadDate, BadField}
 use Rattle.events.specs.declared.Event.{Event}
-use Rattle.events.specs.declared.limits.Checked.{Checked}
-use Rattle.events.specs.declared.limits.Checked.TheVariants.{Within, Refused}
-use Rattle.lines.specs.declared.line.LineAnswer.{LineAnswer}
-use Rattle.lines.specs.declared.line.LineAnswer.TheVariants as lines
 use Rattle.events.specs.Limits.{within, kinds, fields_fit, checked}
 use Rattle.lines.specs.Line.{widths, fields_of, event_of, columns, line_length, line_end, fields_bytes, line_of, Fields, Values, Unreadable, read_fields, answer_of, taken, read_line, checked_line, cells_by, write_answer, bytes_after, line_number, write_number, written_of}
 use Rattle.common.specs.Tests.{among}
@@ -50,31 +47,31 @@ record Read (l : List ℕ) (e : Event) : Type 0 where
   values : List ℕ
   fields : read_fields widths 0 l ≡ Values values
   event : event_of values ≡ e
-  within : checked e ≡ Within
+  within : checked e ≡ (Ok tt)
 
-cond_taken : (b : Bool) (x : LineAnswer) (e : Event)
-    → cond b x (lines.Refused BadLine) ≡ lines.Taken e
-    → (b ≡ true) × (x ≡ lines.Taken e)
+cond_taken : (b : Bool) (x : Result Event Refusal) (e : Event)
+    → cond b x (Err BadLine) ≡ Ok e
+    → (b ≡ true) × (x ≡ Ok e)
 cond_taken true x e t = (refl, t)
 cond_taken false x e t = let z : ◌≡◌ {A = ℕ} 0 1 = cc in absurd (omega arith)
 
-answer_of_taken : (f e : Event) (c : Checked) → answer_of f c ≡ lines.Taken e → (c ≡ Within) × (f ≡ e)
-answer_of_taken f e Within t = (refl, cc)
-answer_of_taken f e (Refused r) t = let z : ◌≡◌ {A = ℕ} 0 1 = cc in absurd (omega arith)
+answer_of_taken : (f e : Event) (c : Result Unit Refusal) → answer_of f c ≡ Ok e → (c ≡ (Ok tt)) × (f ≡ e)
+answer_of_taken f e (Ok tt) t = (refl, cc)
+answer_of_taken f e (Err r) t = let z : ◌≡◌ {A = ℕ} 0 1 = cc in absurd (omega arith)
 
 record Held (f : Fields) (e : Event) : Type 0 where
   values : List ℕ
   fields : f ≡ Values values
   event : event_of values ≡ e
-  within : checked e ≡ Within
+  within : checked e ≡ (Ok tt)
 
-taken_held : (f : Fields) (e : Event) → taken f ≡ lines.Taken e → Held f e
+taken_held : (f : Fields) (e : Event) → taken f ≡ Ok e → Held f e
 taken_held Unreadable e t = let z : ◌≡◌ {A = ℕ} 0 1 = cc in absurd (omega arith)
 taken_held (Values vs) e t =
     let p = answer_of_taken (event_of vs) e (checked (event_of vs)) t in
     record { values = vs; fields = refl; event = p.1; within = ap checked (sym p.1) ∙ p.0 }
 
-read_facts : (l : List ℕ) (e : Event) → read_line l ≡ lines.Taken e → Read l e
+read_facts : (l : List ℕ) (e : Event) → read_line l ≡ Ok e → Read l e
 unfolding read_line
 read_facts l e t =
     let p = cond_taken (eqb (length l) line_length && eqb (get_or l columns 0) line_end) _ e t in
@@ -107,12 +104,12 @@ no_event_has_two_lines l e t =
 
 pub no_line_has_two_events : NoLineHasTwoEvents
 no_line_has_two_events e f p q t =
-    let s : lines.Taken e ≡ lines.Taken f = sym (every_event_has_a_line e p) ∙ ap read_line t ∙ every_event_has_a_line f q in
+    let s : Ok e ≡ Ok f = sym (every_event_has_a_line e p) ∙ ap read_line t ∙ every_event_has_a_line f q in
     cc
 
 -- the writer takes every event within its limits where the buffer has room
 written : (e : Event) (out : List ℕ)
-    → checked e ≡ Within
+    → checked e ≡ (Ok tt)
     → line_length ≤ length out
     → bytes_after e out ≡ line_of e ++ drop line_length out
 unfolding bytes_after write_answer checked
@@ -132,28 +129,28 @@ writes_what_was_read l e out t h =
 -- a line that was taken: its event, and that the cells hold its fields
 pub record CellsTaken (line cells : List ℕ) : Type 0 where
   pub event : Event
-  pub is_read : read_line line ≡ lines.Taken event
+  pub is_read : read_line line ≡ Ok event
   pub is_cells : cells_by (read_line line) cells ≡ fields_of event
-  pub is_within : checked event ≡ Within
+  pub is_within : checked event ≡ (Ok tt)
 
-answer_taken : (line cells : List ℕ) (a : LineAnswer) → read_line line ≡ a → checked_line a ≡ Within → CellsTaken line cells
-answer_taken line cells (lines.Taken e) p t =
+answer_taken : (line cells : List ℕ) (a : Result Event Refusal) → read_line line ≡ a → checked_line a ≡ (Ok tt) → CellsTaken line cells
+answer_taken line cells (Ok e) p t =
     record {
       event = e;
       is_read = p;
-      is_cells = ap (λ (a : LineAnswer). cells_by a cells) p;
+      is_cells = ap (λ (a : Result Event Refusal). cells_by a cells) p;
       is_within = only_within_is_taken line e p;
     }
-answer_taken line cells (lines.Refused r) p t = let z : ◌≡◌ {A = ℕ} 0 1 = cc in absurd (omega arith)
+answer_taken line cells (Err r) p t = let z : ◌≡◌ {A = ℕ} 0 1 = cc in absurd (omega arith)
 
-pub cells_taken : (line cells : List ℕ) → checked_line (read_line line) ≡ Within → CellsTaken line cells
+pub cells_taken : (line cells : List ℕ) → checked_line (read_line line) ≡ (Ok tt) → CellsTaken line cells
 cells_taken line cells t = answer_taken line cells (read_line line) refl t
 
-checked_line_refused : (a : LineAnswer) (r : Refusal) → checked_line a ≡ Refused r → a ≡ lines.Refused r
-checked_line_refused (lines.Taken e) r t = let z : ◌≡◌ {A = ℕ} 0 1 = cc in absurd (omega arith)
-checked_line_refused (lines.Refused s) r t = let p : s ≡ r = cc in ap lines.Refused p
+checked_line_refused : (a : Result Event Refusal) (r : Refusal) → checked_line a ≡ Err r → a ≡ Err r
+checked_line_refused (Ok e) r t = let z : ◌≡◌ {A = ℕ} 0 1 = cc in absurd (omega arith)
+checked_line_refused (Err s) r t = let p : s ≡ r = cc in ap Err p
 
-pub cells_refused : (line : List ℕ) (r : Refusal) → checked_line (read_line line) ≡ Refused r → read_line line ≡ lines.Refused r
+pub cells_refused : (line : List ℕ) (r : Refusal) → checked_line (read_line line) ≡ Err r → read_line line ≡ Err r
 cells_refused line r t = checked_line_refused (read_line line) r t
 
 -- ---- the numbers of the answers
@@ -161,7 +158,7 @@ cells_refused line r t = checked_line_refused (read_line line) r t
 -- the answer of a line whose event fails one of the checks, or none
 event_number_lem : (e : Event) (kind date field : Bool)
     → among (0 ∷ 1 ∷ 3 ∷ 4 ∷ 5 ∷ [])
-    (line_number (answer_of e (cond kind (cond date (cond field Within (Refused BadField)) (Refused BadDate)) (Refused UnknownKind))))
+    (line_number (answer_of e (cond kind (cond date (cond field (Ok tt) (Err BadField)) (Err BadDate)) (Err UnknownKind))))
     ≡ true
 event_number_lem e false date field = refl
 event_number_lem e true false field = refl
@@ -176,7 +173,7 @@ taken_number (Values vs) =
     event_number_lem e (within kinds e.kind) (in_range e.date) (fields_fit e)
 
 line_number_lem : (b : Bool) (f : Fields)
-    → among (0 ∷ 1 ∷ 3 ∷ 4 ∷ 5 ∷ []) (line_number (cond b (taken f) (lines.Refused BadLine))) ≡ true
+    → among (0 ∷ 1 ∷ 3 ∷ 4 ∷ 5 ∷ []) (line_number (cond b (taken f) (Err BadLine))) ≡ true
 line_number_lem false f = refl
 line_number_lem true f = taken_number f
 
@@ -189,8 +186,8 @@ write_number_lem : (room kind date field : Bool)
     (write_number
     (written_of
     (cond room
-    (cond kind (cond date (cond field Within (Refused BadField)) (Refused BadDate)) (Refused UnknownKind))
-    (Refused UnfitMemory))))
+    (cond kind (cond date (cond field (Ok tt) (Err BadField)) (Err BadDate)) (Err UnknownKind))
+    (Err UnfitMemory))))
     ≡ true
 write_number_lem false kind date field = refl
 write_number_lem true false date field = refl

@@ -1,4 +1,5 @@
 -- Laws of the end of the input, for `ending::end_text`. To cite: `end_refused`, `end_none`, `end_line`. Assumes nothing.
+use Rattle.std.proofs.Common.{Err, Ok}
 use mathlib.Core.Path.{◌≡◌, sym}
 use mathlib.Core.Bool.{true, false, cond}
 use mathlib.Core.List.{List}
@@ -11,17 +12,16 @@ use Rattle.common.proofs.Tests.{and_halves}
 use Rattle.refusals.specs.Refusals.{number_of}
 use Rattle.refusals.specs.declared.Refusal.TheVariants.{BadLine, UnfitMemory}
 use Rattle.digits.specs.Field.{pasted}
-use Rattle.model.specs.declared.Answer.TheVariants.{Accepted, Refused}
 use Rattle.report.specs.Layout.{last_number, answer_line, answer_length, answer_fits}
 use Rattle.listing.specs.Listing.{end_fits, EndTaken}
 use Rattle.run.specs.Run.{ends_line}
 use Rattle.report.proofs.Laws.Layout.{length_answer_line, answer_fits_made}
 
 module _ (lines partial : ℕ) (out : List ℕ) where
-  pub end_refused : end_fits out ≡ false → EndTaken lines partial out (record { lines = lines; written = 0; answer = Refused UnfitMemory }) out
+  pub end_refused : end_fits out ≡ false → EndTaken lines partial out (record { lines = lines; written = 0; answer = Err UnfitMemory }) out
   end_refused f = record { answer_is = rw f; number_is = rw f; lines_are = rw f; written_is = rw f; out_is = rw f }
 
-  pub end_none : end_fits out ≡ true → ends_line lines partial ≡ false → EndTaken lines partial out (record { lines = lines; written = 0; answer = Accepted }) out
+  pub end_none : end_fits out ≡ true → ends_line lines partial ≡ false → EndTaken lines partial out (record { lines = lines; written = 0; answer = (Ok tt) }) out
   end_none f n = record { answer_is = rw f; number_is = rw f; lines_are = rw (f, n); written_is = rw (f, n); out_is = rw (f, n) }
 
   pub end_line : (number : ℕ) (out' : List ℕ)
@@ -29,7 +29,7 @@ module _ (lines partial : ℕ) (out : List ℕ) where
       → ends_line lines partial ≡ true
       → number ≡ number_of BadLine
       → out' ≡ cond (answer_fits 0 (lines + 1) number out) (pasted 0 (answer_line (lines + 1) number) out) out
-      → EndTaken lines partial out (record { lines = lines + 1; written = answer_length; answer = Accepted }) out'
+      → EndTaken lines partial out (record { lines = lines + 1; written = answer_length; answer = (Ok tt) }) out'
   end_line number out' f n e w =
       let few = ltb-true lines last_number (and_halves (ltb lines last_number) n).0 in
       let fits =

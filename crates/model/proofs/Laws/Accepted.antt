@@ -1,16 +1,16 @@
 -- What acceptance says, of any ledger: it is fit, the event is within its limits, every test passed, and a treatment found the collection in
 -- its state. And the ledger after an event, by its answer. To cite: `Accepts` with `accepted_facts`, `after_cases`; `is_presented_lem`, `is_settled_lem`;
 -- `UndoFacts` with `undo_facts`. Assumes nothing.
+use Rattle.std.proofs.Common.{Err, Ok, Result}
 use mathlib.Core.Path.{◌≡◌, refl, subst}
 use mathlib.Core.Bool.{Bool, true, false}
 use Prim.Native.Nat.{ℕ}
 use native.Mathlib.Omega.{arith}
 use Rattle.common.proofs.Tests.{never, and_halves}
+use Rattle.refusals.specs.declared.Refusal.{Refusal}
 use Rattle.refusals.specs.declared.Refusal.TheVariants.{UnfitMemory}
 use Rattle.calendar.specs.Gregorian.{in_range}
 use Rattle.events.specs.declared.Event.{Event}
-use Rattle.events.specs.declared.limits.Checked.{Checked}
-use Rattle.events.specs.declared.limits.Checked.TheVariants as events
 use Rattle.events.specs.Limits.{checked}
 use Rattle.tables.specs.Ledger.{Ledger}
 use Rattle.tables.specs.Records.{state_tag, state_day}
@@ -18,8 +18,6 @@ use Rattle.fitness.specs.Fitness.{day_fit, fit}
 use Rattle.tables.specs.declared.Collection.{Collection}
 use Rattle.tables.specs.declared.State.{State}
 use Rattle.tables.specs.declared.State.TheVariants.{Presented, Rejected, Settled, Undone}
-use Rattle.model.specs.declared.Answer.{Answer}
-use Rattle.model.specs.declared.Answer.TheVariants.{Accepted, Refused}
 use Rattle.model.specs.declared.Treatment.{Treatment}
 use Rattle.model.specs.declared.Way.{Way}
 use Rattle.model.specs.Actions.{action_of}
@@ -36,20 +34,20 @@ use Rattle.model.proofs.Laws.Effects.{of_known_lem, CollectionThere}
 
 pub record Accepts (l : Ledger) (e : Event) : Type 0 where
   pub fits : fit l ≡ true
-  pub is_within : checked e ≡ events.Within
+  pub is_within : checked e ≡ (Ok tt)
   pub range : in_range e.date ≡ true
   pub sound : Sound (action_of e)
   pub passed : Passed l e.date (action_of e)
 
-checked_passed : (c : Checked) (a : Answer) → then_ruled c a ≡ Accepted → (c ≡ events.Within) × (a ≡ Accepted)
-checked_passed events.Within a e = (refl, e)
-checked_passed (events.Refused r) a e = let z : ◌≡◌ {A = ℕ} 0 1 = cc in absurd (omega arith)
+checked_passed : (c : Result Unit Refusal) (a : Result Unit Refusal) → then_ruled c a ≡ (Ok tt) → (c ≡ (Ok tt)) × (a ≡ (Ok tt))
+checked_passed (Ok tt) a e = (refl, e)
+checked_passed (Err r) a e = let z : ◌≡◌ {A = ℕ} 0 1 = cc in absurd (omega arith)
 
-pub accepted_facts : (l : Ledger) (e : Event) → answer l e ≡ Accepted → Accepts l e
+pub accepted_facts : (l : Ledger) (e : Event) → answer l e ≡ (Ok tt) → Accepts l e
 unfolding answer
 accepted_facts l e h =
     let rules = ruled l e.date (action_of e) in
-    let f = passes_first (fit l) (Refused UnfitMemory) (then_ruled (checked e) rules) refl h in
+    let f = passes_first (fit l) (Err UnfitMemory) (then_ruled (checked e) rules) refl h in
     let c = checked_passed (checked e) rules f.1 in
     let s = sound_event e c.0 in
     record { fits = f.0; is_within = c.0; range = s.0; sound = s.1; passed = passed l e.date (action_of e) c.1 }
@@ -62,9 +60,9 @@ pub after_cases : (P : Bool → Ledger → Type 0) (l : Ledger) (e : Event)
 unfolding after
 after_cases P l e changed same = by_answer (answer l e) refl
   where
-    by_answer : (a : Answer) → answer l e ≡ a → P (is_accepted a) (after_answer a (effect l e.date (action_of e)) l)
-    by_answer Accepted i = changed (accepted_facts l e i)
-    by_answer (Refused r) i = same
+    by_answer : (a : Result Unit Refusal) → answer l e ≡ a → P (is_accepted a) (after_answer a (effect l e.date (action_of e)) l)
+    by_answer (Ok tt) i = changed (accepted_facts l e i)
+    by_answer (Err r) i = same
 
 pub was_accepted : (l : Ledger) (e : Event) → is_accepted (answer l e) ≡ true → Accepts l e
 was_accepted l e = after_cases (λ b x. b ≡ true → Accepts l e) l e (λ a i. a) (λ i. absurd (never i refl))

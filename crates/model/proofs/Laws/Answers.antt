@@ -1,10 +1,12 @@
 -- The answers in the paper's numbers. To cite: `event_numbers`, `event_answers`, `query_answers`, `opening_answers`. Assumes nothing.
+use Rattle.std.proofs.Common.{Err, Ok, Result}
 use mathlib.Core.Path.{◌≡◌, refl, ap, ◌∙◌}
 use mathlib.Core.Bool.{Bool, true, false, cond, ◌&&◌}
 use mathlib.Core.List.{List, [], ◌∷◌}
 use Prim.Native.Nat.{ℕ}
 use lib.IntN.{ℤ, pos}
 use Rattle.common.proofs.Tests.{and_halves}
+use Rattle.refusals.specs.declared.Refusal.{Refusal}
 use Rattle.refusals.specs.declared.Refusal.TheVariants.{UnfitMemory, BadField}
 use Rattle.common.specs.Checks.{Check, check, judged}
 use Rattle.calendar.specs.Gregorian.{in_range}
@@ -16,9 +18,6 @@ use Rattle.tables.specs.Ledger.{Ledger}
 use Rattle.fitness.specs.Fitness.{sizes_fit, fit}
 use Rattle.opening.specs.Opening.{OpenResult, opening}
 use Rattle.opening.proofs.Laws.Opening.{opening_done, opening_refused}
-use Rattle.model.specs.declared.Answer.{Answer}
-use Rattle.model.specs.declared.Answer.TheVariants as answers
-use Rattle.model.specs.declared.QueryAnswer.TheVariants as queries
 use Rattle.model.specs.Actions.{action_of}
 use Rattle.model.specs.Checks.{checks, ruled}
 use Rattle.model.specs.Step.{answer_number, then_ruled, answer, numbers, event_number, in_query, figure_of, query, query_number, answered}
@@ -48,10 +47,10 @@ judged_number f (c ∷ cs) a = first_number f c.passes (judged cs a) c.failing (
 module _ (l : Ledger) (e : Event) where
   ruled_number : answer_number (ruled l e.date (action_of e)) ≡ judged (numbered answer_number (checks l e.date (action_of e))) 0
   unfolding ruled
-  ruled_number = judged_number answer_number (checks l e.date (action_of e)) answers.Accepted
+  ruled_number = judged_number answer_number (checks l e.date (action_of e)) (Ok tt)
 
   -- 3 to 5 come first
-  limits_number : (a : Answer) → answer_number (then_ruled (checked e) a) ≡ cond (within kinds e.kind) (cond (in_range e.date) (cond (fields_fit e) (answer_number a) 5) 4) 3
+  limits_number : (a : Result Unit Refusal) → answer_number (then_ruled (checked e) a) ≡ cond (within kinds e.kind) (cond (in_range e.date) (cond (fields_fit e) (answer_number a) 5) 4) 3
   limits_number a = by_tests (within kinds e.kind) (in_range e.date) (fields_fit e) refl refl refl
     where
       by_tests : (kind date fields : Bool) → within kinds e.kind ≡ kind → in_range e.date ≡ date → fields_fit e ≡ fields → answer_number (then_ruled (checked e) a) ≡ cond kind (cond date (cond fields (answer_number a) 5) 4) 3
@@ -64,7 +63,7 @@ module _ (l : Ledger) (e : Event) where
   unfolding answer
   fit_number_lem = by_test (fit l)
     where
-      by_test : (b : Bool) → answer_number (cond b (then_ruled (checked e) (ruled l e.date (action_of e))) (answers.Refused UnfitMemory)) ≡ cond b (answer_number (then_ruled (checked e) (ruled l e.date (action_of e)))) 2
+      by_test : (b : Bool) → answer_number (cond b (then_ruled (checked e) (ruled l e.date (action_of e))) (Err UnfitMemory)) ≡ cond b (answer_number (then_ruled (checked e) (ruled l e.date (action_of e)))) 2
       by_test true = refl
       by_test false = refl
 
@@ -95,12 +94,12 @@ event_answers l e =
 
 -- ---- a query and an opening
 
-query_number_lem : (f q : Bool) (z : ℤ) → query_number (cond f (cond q (queries.Figure z) (queries.Refused BadField)) (queries.Refused UnfitMemory)) ≡ cond f (cond q 0 5) 2
+query_number_lem : (f q : Bool) (z : ℤ) → query_number (cond f (cond q (Ok z) (Err BadField)) (Err UnfitMemory)) ≡ cond f (cond q 0 5) 2
 query_number_lem true true z = refl
 query_number_lem true false z = refl
 query_number_lem false q z = refl
 
-query_figure : (f q : Bool) (z : ℤ) → answered (cond f (cond q (queries.Figure z) (queries.Refused BadField)) (queries.Refused UnfitMemory)) ≡ cond (f && q) z (pos 0)
+query_figure : (f q : Bool) (z : ℤ) → answered (cond f (cond q (Ok z) (Err BadField)) (Err UnfitMemory)) ≡ cond (f && q) z (pos 0)
 query_figure true true z = refl
 query_figure true false z = refl
 query_figure false q z = refl

@@ -2,6 +2,7 @@
 -- To cite: `of_known_lem`, `not_known`; `MandateThere` with `mandate_there_lem`, `CollectionThere` with `collection_there` and `creditor_entry` to `cbank_entry`;
 -- `changed_number`, `presented_number`, `treated_number`; `effect_change`, `effect_collect`, `effect_treat`;
 -- `mandates_kept`, `collections_kept`. Assumes nothing.
+use Rattle.std.proofs.Common.{Some}
 use mathlib.Core.Path.{◌≡◌, refl, sym, ap, ◌∙◌}
 use mathlib.Core.Bool.{Bool, true, false, cond}
 use Prim.Native.Nat.{ℕ, ◌<◌}
@@ -12,7 +13,6 @@ use Rattle.tables.specs.Ledger.{Ledger}
 use Rattle.tables.specs.Lookup.{lookup}
 use Rattle.tables.specs.Rows.{rows, mandate_at, collection_at}
 use Rattle.fitness.specs.Fitness.{fit}
-use Rattle.tables.specs.declared.Found.TheVariants.{At}
 use Rattle.tables.specs.declared.Mandate.{Mandate}
 use Rattle.tables.specs.declared.Collection.{Collection}
 use Rattle.tables.proofs.Laws.Lookup.{lookup_at, mandate_at_number, collection_at_number}
@@ -51,7 +51,7 @@ pub record MandateThere (l : Ledger) (n : ℕ) : Type 0 where
   pub mandate : Mandate
   pub is : mandate_of l n ≡ known mandate
   pub row : ℕ
-  pub found : lookup l.mandates l.mandates_used n ≡ At row
+  pub found : lookup l.mandates l.mandates_used n ≡ Some row
   pub at_row_lem : mandate_at l.mandates row ≡ mandate
   pub used_row_lem : row < l.mandates_used
   pub lent_row : row < rows l.mandates
@@ -81,7 +81,7 @@ pub record CollectionThere (l : Ledger) (n : ℕ) : Type 0 where
   pub collection : Collection
   pub is : collection_of l n ≡ known collection
   pub row : ℕ
-  pub found : lookup l.collections l.collections_used n ≡ At row
+  pub found : lookup l.collections l.collections_used n ≡ Some row
   pub at_row_lem : collection_at l.collections row ≡ collection
   pub used_row_lem : row < l.collections_used
   pub lent_row : row < rows l.collections

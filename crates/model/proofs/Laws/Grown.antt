@@ -1,13 +1,12 @@
 -- What an event, whatever its answer, writes to the rows of both tables: each used row stays where it is, with its number, and no
 -- unused row is written. To cite: `mandates_grown`, `collections_grown`, `unused_rows`. Assumes nothing.
+use Rattle.std.proofs.Common.{None, Option, Some, ℕ}
 use mathlib.Core.Path.{◌≡◌, refl, ◌∙◌}
 use mathlib.Core.List.{List}
 use Prim.Native.Nat.{ℕ, ◌+◌}
 use native.Mathlib.Omega.{arith}
 use lib.ListN.{length, get_or}
 use Rattle.events.specs.declared.Event.{Event}
-use Rattle.tables.specs.declared.Found.{Found}
-use Rattle.tables.specs.declared.Found.TheVariants.{At, Nothing}
 use Rattle.tables.specs.declared.Mandate.{Mandate}
 use Rattle.tables.specs.declared.Collection.{Collection}
 use Rattle.tables.specs.Ledger.{Ledger}
@@ -32,19 +31,19 @@ use Rattle.model.proofs.Laws.Accepted.{after_cases}
 
 module _ (P : List ℕ → ℕ → List ℕ → ℕ → Type 0)
     (same : (cells : List ℕ) (used : ℕ) → P cells used cells used)
-    (anew : (cells : List ℕ) (used n row : ℕ) (fields : List ℕ) → length fields ≡ stride → lookup cells used n ≡ At row
+    (anew : (cells : List ℕ) (used n row : ℕ) (fields : List ℕ) → length fields ≡ stride → lookup cells used n ≡ Some row
     → get_or fields 0 0 ≡ number_at cells row → P cells used (put_row stride cells row fields) used)
     (next : (cells : List ℕ) (used : ℕ) (fields : List ℕ) → length fields ≡ stride → P cells used (put_row stride cells used fields) (used + 1)) where
   module _ (l : Ledger) (date : ℕ) where
     mandate_anew : (n row : ℕ) (m : Mandate)
-        → lookup l.mandates l.mandates_used n ≡ At row
+        → lookup l.mandates l.mandates_used n ≡ Some row
         → m.number ≡ (mandate_at l.mandates row).number
         → P l.mandates l.mandates_used (put_mandate l.mandates row m) l.mandates_used
     mandate_anew n row m f e =
         anew l.mandates l.mandates_used n row (mandate_cells m) refl f (e ∙ mandate_at_number l.mandates row)
 
     collection_anew : (n row : ℕ) (k : Collection)
-        → lookup l.collections l.collections_used n ≡ At row
+        → lookup l.collections l.collections_used n ≡ Some row
         → k.number ≡ (collection_at l.collections row).number
         → P l.collections l.collections_used (put_collection l.collections row k) l.collections_used
     collection_anew n row k f e =
@@ -57,9 +56,9 @@ module _ (P : List ℕ → ℕ → List ℕ → ℕ → Type 0)
     Collections l' = P l.collections l.collections_used l'.collections l'.collections_used
 
     -- of the row that was found, or of none
-    at_row_lem : (Q : Ledger → Type 0) (f : Found) (g : ℕ → Ledger) → Q (dated l date) → ((row : ℕ) → f ≡ At row → Q (g row)) → Q (at_row f (dated l date) g)
-    at_row_lem Q Nothing g none found = none
-    at_row_lem Q (At row) g none found = found row refl
+    at_row_lem : (Q : Ledger → Type 0) (f : Option ℕ) (g : ℕ → Ledger) → Q (dated l date) → ((row : ℕ) → f ≡ Some row → Q (g row)) → Q (at_row f (dated l date) g)
+    at_row_lem Q None g none found = none
+    at_row_lem Q (Some row) g none found = found row refl
 
     treat_mandates : (row : ℕ) (k : Collection) (t : Treatment) (c : Collection) → Mandates (post_treated (keep_collection (dated l date) row k) t date c)
     treat_mandates row k Settle c = same l.mandates l.mandates_used
@@ -119,7 +118,7 @@ module _ (P : List ℕ → ℕ → List ℕ → ℕ → Type 0)
 
 -- ---- each used row stays where it is, with its number
 
-grown_anew : (cells : List ℕ) (used n row : ℕ) (fields : List ℕ) → length fields ≡ stride → lookup cells used n ≡ At row → get_or fields 0 0 ≡ number_at cells row → Grown cells used (put_row stride cells row fields) used
+grown_anew : (cells : List ℕ) (used n row : ℕ) (fields : List ℕ) → length fields ≡ stride → lookup cells used n ≡ Some row → get_or fields 0 0 ≡ number_at cells row → Grown cells used (put_row stride cells row fields) used
 grown_anew cells used n row fields len f e = grown_put_kept cells row fields len (lookup_lent cells used n row f) e used
 
 pub mandates_grown : (l : Ledger) (e : Event) → Grown l.mandates l.mandates_used (after l e).mandates (after l e).mandates_used
@@ -133,7 +132,7 @@ collections_grown = collections_after Grown grown_same grown_anew grown_put_next
 unused_same : (cells : List ℕ) (used : ℕ) → UnusedKept cells used cells used
 unused_same cells used = record { same_length = refl; none_lost = omega arith; one_more = omega arith; same_cells = λ i h. refl }
 
-unused_anew : (cells : List ℕ) (used n row : ℕ) (fields : List ℕ) → length fields ≡ stride → lookup cells used n ≡ At row → get_or fields 0 0 ≡ number_at cells row → UnusedKept cells used (put_row stride cells row fields) used
+unused_anew : (cells : List ℕ) (used n row : ℕ) (fields : List ℕ) → length fields ≡ stride → lookup cells used n ≡ Some row → get_or fields 0 0 ≡ number_at cells row → UnusedKept cells used (put_row stride cells row fields) used
 unused_anew cells used n row fields len f e =
     record {
       same_length = length_put stride cells row fields;

@@ -1,5 +1,6 @@
 -- The limits of specs/Deadlines are dates, from every date in range. To cite: `passed_limit`, `at_most_limit` (a test that passed names its limit),
 -- `last_day_found`, `last_day_return`, `last_day_refund`, `last_day_reversal`, `lapse_found`, `kept_found`, `timing`. Assumes nothing.
+use Rattle.std.proofs.Common.{Option, Some, ℕ}
 use mathlib.Core.Path.{◌≡◌, refl, ap, ◌∙◌}
 use mathlib.Core.Bool.{Bool, true, false, cond, not}
 use Prim.Native.Nat.{ℕ, ◌≤◌}
@@ -11,8 +12,6 @@ use Rattle.calendar.specs.Gregorian.{is_date, in_range}
 use Rattle.calendar.specs.DayNumber.{day_number, date_at}
 use Rattle.calendar.specs.Target.{last_business_day_before}
 use Rattle.calendar.specs.Periods.{days_after, months_after, is_after}
-use Rattle.calendar.specs.declared.DateAnswer.{DateAnswer}
-use Rattle.calendar.specs.declared.DateAnswer.TheVariants.{Date}
 use Rattle.calendar.proofs.Laws.Gregorian.{range_facts, date_valid}
 use Rattle.calendar.proofs.Laws.DayNumber.{day_number_lt, day_number_reflects_le}
 use Rattle.calendar.proofs.Laws.Answers.{DateAfter, day_of_is, date_of_is}
@@ -30,13 +29,13 @@ use Rattle.model.specs.Promises.{last_day_from, NotAfter, Timing}
 
 -- ---- a test that passed, and its limit
 
-pub at_most_limit : (x last : ℕ) (a : DateAnswer) → a ≡ Date last → not (is_after x a) ≡ true → x ≤ last
+pub at_most_limit : (x last : ℕ) (a : Option ℕ) → a ≡ Some last → not (is_after x a) ≡ true → x ≤ last
 at_most_limit x last a e h = let f : is_after x a ≡ false = not_true {b = is_after x a} h in ltb-false last x (rw e at f)
 
-pub passed_limit : (x last : ℕ) (a : DateAnswer) → a ≡ Date last → not (is_after x a) ≡ true → NotAfter x a
+pub passed_limit : (x last : ℕ) (a : Option ℕ) → a ≡ Some last → not (is_after x a) ≡ true → NotAfter x a
 passed_limit x last a e h = record { last = last; is = e; not_after = at_most_limit x last a e h }
 
-passes : (x : ℕ) (a : DateAnswer) → NotAfter x a → not (is_after x a) ≡ true
+passes : (x : ℕ) (a : Option ℕ) → NotAfter x a → not (is_after x a) ≡ true
 passes x a n = rw (n.is, le-ltb n.last x n.not_after)
 
 -- ---- last days
@@ -58,21 +57,21 @@ unfolding last_day
 last_day_found way settled r = range_period_end (period_of core way) settled r (omega (arith, longest_way way))
 
 -- no months and no days after a date is the date
-same_date : (x : ℕ) (a : DateAnswer) → is_date x ≡ true → DateAfter x a 0 → a ≡ Date x
+same_date : (x : ℕ) (a : Option ℕ) → is_date x ≡ true → DateAfter x a 0 → a ≡ Some x
 same_date x a h d =
     let le = day_number_reflects_le d.date x d.is_date_lem h (omega (arith, d.near)) in
     let e : d.date ≡ x = omega (arith, d.from) in
-    d.is ∙ ap Date e
+    d.is ∙ ap Some e
 
 module _ (x : ℕ) (r : in_range x ≡ true) where
-  no_months : months_after (record { 0 = 0 }) x ≡ Date x
+  no_months : months_after (record { 0 = 0 }) x ≡ Some x
   no_months =
       let f = range_facts x r in
       let v = date_valid x f.is_date_lem in
       let e = month_count_is 0 x in
       same_date x _ f.is_date_lem (months_after_lem (record { 0 = 0 }) x f.is_date_lem (omega (arith, f.to)))
 
-  no_days : days_after (record { 0 = 0 }) x ≡ Date x
+  no_days : days_after (record { 0 = 0 }) x ≡ Some x
   no_days =
       let f = range_facts x r in
       same_date x _ f.is_date_lem (days_after_lem (record { 0 = 0 }) x f.is_date_lem (omega (arith, (range_days x r).1)))
@@ -125,7 +124,7 @@ kept_found requested r = let k = kept_due_lem requested r in rw k.is k.in_range_
 
 record Before (x : ℕ) : Type 0 where
   date : ℕ
-  is : last_business_day_before x ≡ Date date
+  is : last_business_day_before x ≡ Some date
 
 before_found : (x : ℕ) → in_range x ≡ true → Before x
 before_found x r =

@@ -1,6 +1,7 @@
 -- Demand 3, proved: `demand3`. Every list from an opening, so every part of one, leaves tables that are safe, sums of zero, a journal that
 -- agrees (an instance of `agrees_run`) and as many accepted events as the states say (`opened_reaches`); the claims follow from these.
 -- Assumes nothing.
+use Rattle.std.proofs.Common.{None, Ok, Option, ℕ}
 use mathlib.Core.Path.{◌≡◌, refl, sym, ap, subst, ◌∙◌}
 use mathlib.Core.Bool.{true, false, not, ◌&&◌}
 use mathlib.Core.Logic.{⊎_elim}
@@ -14,7 +15,6 @@ use borrow.Author.Tests.{le-leb, eqb-true}
 use Rattle.common.proofs.Tests.{never, true_or_false, and_true}
 use Rattle.calendar.specs.Gregorian.{in_range}
 use Rattle.calendar.specs.Periods.{is_after}
-use Rattle.calendar.specs.declared.DateAnswer.{DateAnswer}
 use Rattle.calendar.proofs.Laws.Promises.{kept_due_lem}
 use Rattle.events.specs.declared.Event.{Event}
 use Rattle.common.specs.Tests.{among}
@@ -25,14 +25,12 @@ use Rattle.tables.specs.Ledger.{Ledger, bank_of}
 use Rattle.tables.specs.Lookup.{lookup}
 use Rattle.fitness.specs.Fitness.{sizes_fit, fit}
 use Rattle.opening.specs.Opening.{fresh, opened}
-use Rattle.tables.specs.declared.Found.TheVariants.{Nothing}
 use Rattle.tables.specs.declared.Mandate.{Mandate}
 use Rattle.tables.specs.declared.Standing.{Standing}
 use Rattle.tables.specs.declared.Standing.TheVariants.{Live, Closed, Cancelled}
 use Rattle.tables.proofs.Laws.Lookup.{lookup_none, existing_used}
 use Rattle.opening.proofs.Laws.Opening.{opened_done}
 use Rattle.fitness.proofs.Laws.Fitness.{fit_facts}
-use Rattle.model.specs.declared.QueryAnswer.TheVariants as queries
 use Rattle.model.specs.declared.Way.{Way}
 use Rattle.model.specs.Actions.{presentation, action_of}
 use Rattle.model.specs.declared.Action.TheVariants.{Collect, Treat}
@@ -105,7 +103,7 @@ module _ (base l : Ledger) (h : List Entry) (s : Reached base l h) (e : Event) w
         is_noted = n.is;
         in_time_lem =
             subst (λ (i : ℕ). NotAfter e.date (last_day_from e.kind e.code i)) (sym (n.same.settled u.day u.state))
-            (passed_limit e.date d.date _ (sym w ∙ d.is) (subst (λ (a : DateAnswer). not (is_after e.date a) ≡ true) w u.in_time_lem));
+            (passed_limit e.date d.date _ (sym w ∙ d.is) (subst (λ (a : Option ℕ). not (is_after e.date a) ≡ true) w u.in_time_lem));
       }
 
   undone_in_time : Passed l e.date (action_of e) → among undoings e.kind ≡ true → UndoneInTime h e
@@ -159,7 +157,7 @@ no_bank : (n a : ℕ) → bank_of (replicate n 0) a ≡ 0
 unfolding bank_of
 no_bank n a = rw (zero_entry n (a - 1)) (same_arms (eqb a 0) 0)
 
-no_row : (cells : List ℕ) (n : ℕ) → lookup cells 0 n ≡ Nothing
+no_row : (cells : List ℕ) (n : ℕ) → lookup cells 0 n ≡ None
 no_row cells n = lookup_none cells 0 n (λ j l. absurd (omega (arith, existing_used cells 0)))
 
 module _ (t : Ledger) (z : sizes_fit t ≡ true) where
@@ -199,7 +197,7 @@ module _ (t : Ledger) (z : sizes_fit t ≡ true) where
 
 -- the answers of a fit ledger
 module _ (l : Ledger) (f : fit l ≡ true) where
-  query_figure : (kind number : ℕ) → in_query kind number ≡ true → query l kind number ≡ queries.Figure (figure_of l kind number)
+  query_figure : (kind number : ℕ) → in_query kind number ≡ true → query l kind number ≡ Ok (figure_of l kind number)
   unfolding query
   query_figure kind number q = rw (f, q)
 
@@ -232,7 +230,7 @@ module _ (t : Ledger) (z : sizes_fit t ≡ true) (es : List Event) where
       let paid : answered (query l 4 0) ≡ l.compensation = ap answered (query_figure l f 4 0 refl) in
       let turns = each_entry InTurn (opened t) es (λ earlier. in_turn (opened t) (run (opened t) earlier) (history (opened t) earlier) (opened_reaches t z earlier)) in
       record {
-        figures = λ kind number q. query_figure l f kind number q ∙ ap queries.Figure (figures_agree kind number);
+        figures = λ kind number q. query_figure l f kind number q ∙ ap Ok (figures_agree kind number);
         parties = rw (creditors, debtors, paid) r.balanced.parties;
         banks = banks ∙ r.balanced.banks;
         ended_once = λ c. rw (r.counted Ends c) (count_le Ends (collection_of l c));

@@ -1,6 +1,7 @@
 -- What is known under a number, after a row is written: the row that was found, or the next one.
 -- To cite: `mandate_of_keep`, `mandate_of_add`, `collection_of_keep`, `collection_of_add`; `mandate_row`, `collection_row` (the row of what is known).
 -- Assumes nothing.
+use Rattle.std.proofs.Common.{None, Option, Some, ℕ}
 use mathlib.Core.Path.{◌≡◌, refl, sym, ap, ◌∙◌}
 use mathlib.Core.Bool.{Bool, false, cond}
 use mathlib.Core.Logic.{⊎_elim, ◌≢◌}
@@ -16,8 +17,6 @@ use Rattle.tables.specs.Ledger.{Ledger}
 use Rattle.tables.specs.Lookup.{lookup, number_at}
 use Rattle.tables.specs.Records.{mandate_cells, collection_cells}
 use Rattle.tables.specs.Rows.{rows, put_row, mandate_at, collection_at}
-use Rattle.tables.specs.declared.Found.{Found}
-use Rattle.tables.specs.declared.Found.TheVariants.{At, Nothing}
 use Rattle.tables.specs.declared.Mandate.{Mandate}
 use Rattle.tables.specs.declared.Collection.{Collection}
 use Rattle.tables.proofs.Laws.Lookup.{lookup_at, existing_rows, existing_used, or_else, lookup_put_kept, lookup_put_next}
@@ -32,14 +31,14 @@ module _ {A : Type 0} (at : List ℕ → ℕ → A) (cells : List ℕ) (used n :
   -- the row that was found, and what stands in it
   pub record Held (a : A) : Type 0 where
     pub row : ℕ
-    pub found : lookup cells used n ≡ At row
+    pub found : lookup cells used n ≡ Some row
     pub is : a ≡ at cells row
     pub used_row_lem : row < used
     pub lent_row : row < rows cells
 
-  held_case : (f : Found) → lookup cells used n ≡ f → (a : A) → in_row f (at cells) ≡ known a → Held a
-  held_case Nothing e a k = let z : ◌≡◌ {A = ℕ} 0 1 = cc in absurd (omega arith)
-  held_case (At row) e a k =
+  held_case : (f : Option ℕ) → lookup cells used n ≡ f → (a : A) → in_row f (at cells) ≡ known a → Held a
+  held_case None e a k = let z : ◌≡◌ {A = ℕ} 0 1 = cc in absurd (omega arith)
+  held_case (Some row) e a k =
       let low = (lookup_at cells used n row e).existing_row in
       record {
         row = row;
@@ -52,11 +51,11 @@ module _ {A : Type 0} (at : List ℕ → ℕ → A) (cells : List ℕ) (used n :
   pub held : (a : A) → in_row (lookup cells used n) (at cells) ≡ known a → Held a
   held a k = held_case (lookup cells used n) refl a k
 
-  nothing_case : (f : Found) → in_row f (at cells) ≡ unknown → f ≡ Nothing
-  nothing_case Nothing e = refl
-  nothing_case (At row) e = let z : ◌≡◌ {A = ℕ} 0 1 = cc in absurd (omega arith)
+  nothing_case : (f : Option ℕ) → in_row f (at cells) ≡ unknown → f ≡ None
+  nothing_case None e = refl
+  nothing_case (Some row) e = let z : ◌≡◌ {A = ℕ} 0 1 = cc in absurd (omega arith)
 
-  pub nothing_held : in_row (lookup cells used n) (at cells) ≡ unknown → lookup cells used n ≡ Nothing
+  pub nothing_held : in_row (lookup cells used n) (at cells) ≡ unknown → lookup cells used n ≡ None
   nothing_held e = nothing_case (lookup cells used n) e
 
   -- after a row with a number is written
@@ -64,11 +63,11 @@ module _ {A : Type 0} (at : List ℕ → ℕ → A) (cells : List ℕ) (used n :
       (same : at (put_row stride cells row fields) row ≡ a)
       (other : (r : ℕ) → r ≢ row → at (put_row stride cells row fields) r ≡ at cells r) where
     -- another number is found where it was
-    elsewhere : (k : ℕ) (f : Found) → ((r : ℕ) → f ≡ At r → r ≢ row) → in_row f (at (put_row stride cells row fields)) ≡ in_row f (at cells)
-    elsewhere k Nothing d = refl
-    elsewhere k (At r) d = ap known (other r (d r refl))
+    elsewhere : (k : ℕ) (f : Option ℕ) → ((r : ℕ) → f ≡ Some r → r ≢ row) → in_row f (at (put_row stride cells row fields)) ≡ in_row f (at cells)
+    elsewhere k None d = refl
+    elsewhere k (Some r) d = ap known (other r (d r refl))
 
-    kept : lookup cells used n ≡ At row → (k : ℕ) → in_row (lookup (put_row stride cells row fields) used k) (at (put_row stride cells row fields)) ≡ cond (eqb k n) (known a) (in_row (lookup cells used k) (at cells))
+    kept : lookup cells used n ≡ Some row → (k : ℕ) → in_row (lookup (put_row stride cells row fields) used k) (at (put_row stride cells row fields)) ≡ cond (eqb k n) (known a) (in_row (lookup cells used k) (at cells))
     kept e k =
         let low = lookup_at cells used n row e in
         let lent : row < rows cells = omega (arith, low.existing_row, existing_rows cells used) in
@@ -88,13 +87,13 @@ module _ {A : Type 0} (at : List ℕ → ℕ → A) (cells : List ℕ) (used n :
   module _ (fields : List ℕ) (len : length fields ≡ stride) (number : get_or fields 0 0 ≡ n) (a : A)
       (same : at (put_row stride cells used fields) used ≡ a)
       (other : (r : ℕ) → r ≢ used → at (put_row stride cells used fields) r ≡ at cells r) where
-    next_case : (k : ℕ) (f : Found) → lookup cells used k ≡ f → eqb k n ≡ false → in_row (or_else f (cond (eqb n k) (At used) Nothing)) (at (put_row stride cells used fields)) ≡ in_row f (at cells)
-    next_case k Nothing e q = let p = eqb-false k n q in rw (ne_eqb n k (λ i. p (sym i)))
-    next_case k (At r) e q =
+    next_case : (k : ℕ) (f : Option ℕ) → lookup cells used k ≡ f → eqb k n ≡ false → in_row (or_else f (cond (eqb n k) (Some used) None)) (at (put_row stride cells used fields)) ≡ in_row f (at cells)
+    next_case k None e q = let p = eqb-false k n q in rw (ne_eqb n k (λ i. p (sym i)))
+    next_case k (Some r) e q =
         let low = (lookup_at cells used k r e).existing_row in
         ap known (other r (λ i. omega (arith, existing_used cells used)))
 
-    next : used < rows cells → lookup cells used n ≡ Nothing → (k : ℕ) → in_row (lookup (put_row stride cells used fields) (used + 1) k) (at (put_row stride cells used fields)) ≡ cond (eqb k n) (known a) (in_row (lookup cells used k) (at cells))
+    next : used < rows cells → lookup cells used n ≡ None → (k : ℕ) → in_row (lookup (put_row stride cells used fields) (used + 1) k) (at (put_row stride cells used fields)) ≡ cond (eqb k n) (known a) (in_row (lookup cells used k) (at cells))
     next lent e k =
         let there = lookup_put_next cells used fields len lent k in
         ⊎_elim
@@ -114,7 +113,7 @@ module _ (l : Ledger) (n : ℕ) where
   unfolding mandate_of
   mandate_row m e = held mandate_at l.mandates l.mandates_used n m e
 
-  pub no_mandate_row : mandate_of l n ≡ unknown → lookup l.mandates l.mandates_used n ≡ Nothing
+  pub no_mandate_row : mandate_of l n ≡ unknown → lookup l.mandates l.mandates_used n ≡ None
   unfolding mandate_of
   no_mandate_row e = nothing_held mandate_at l.mandates l.mandates_used n e
 
@@ -122,19 +121,19 @@ module _ (l : Ledger) (n : ℕ) where
   unfolding collection_of
   collection_row c e = held collection_at l.collections l.collections_used n c e
 
-  pub no_collection_row : collection_of l n ≡ unknown → lookup l.collections l.collections_used n ≡ Nothing
+  pub no_collection_row : collection_of l n ≡ unknown → lookup l.collections l.collections_used n ≡ None
   unfolding collection_of
   no_collection_row e = nothing_held collection_at l.collections l.collections_used n e
 
 -- the row that was found is written anew, with its number
 module _ (l : Ledger) (row : ℕ) where
-  pub mandate_of_keep : (m : Mandate) → row < rows l.mandates → lookup l.mandates l.mandates_used m.number ≡ At row → (k : ℕ) → mandate_of (keep_mandate l row m) k ≡ cond (eqb k m.number) (known m) (mandate_of l k)
+  pub mandate_of_keep : (m : Mandate) → row < rows l.mandates → lookup l.mandates l.mandates_used m.number ≡ Some row → (k : ℕ) → mandate_of (keep_mandate l row m) k ≡ cond (eqb k m.number) (known m) (mandate_of l k)
   unfolding mandate_of
   mandate_of_keep m h e k =
       kept mandate_at l.mandates l.mandates_used m.number row (mandate_cells m) refl refl m
       (mandate_at_put_same l.mandates row m h) (mandate_at_put_other l.mandates row m) e k
 
-  pub collection_of_keep : (c : Collection) → row < rows l.collections → lookup l.collections l.collections_used c.number ≡ At row → (k : ℕ) → collection_of (keep_collection l row c) k ≡ cond (eqb k c.number) (known c) (collection_of l k)
+  pub collection_of_keep : (c : Collection) → row < rows l.collections → lookup l.collections l.collections_used c.number ≡ Some row → (k : ℕ) → collection_of (keep_collection l row c) k ≡ cond (eqb k c.number) (known c) (collection_of l k)
   unfolding collection_of
   collection_of_keep c h e k =
       kept collection_at l.collections l.collections_used c.number row (collection_cells c) refl refl c

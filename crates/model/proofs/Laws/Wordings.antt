@@ -1,6 +1,7 @@
 -- The journal's words and the step's say the same. `note_of` is what an action asks the journal to note by the step's own rules
 -- (`closes`, `undone`, `kept_due`); an event within its limits is noted as its action asks, `note_action`. `treats` counts actions as the
 -- promises count events by their kinds, `counted_action`. The invariant keeps these and cites both laws once. Assumes nothing.
+use Rattle.std.proofs.Common.{None, Ok, Option, Some, ℕ}
 use mathlib.Core.Path.{◌≡◌, refl, sym, ap, ◌∙◌}
 use mathlib.Core.Bool.{Bool, true, false, cond, ◌&&◌}
 use mathlib.Core.List.{List}
@@ -11,12 +12,9 @@ use lib.Dec.{eqb}
 use lib.IntN.{pos, neg_ℤ-neg_ℤ}
 use Rattle.common.proofs.Tests.{true_or_false}
 use Rattle.calendar.specs.Target.{first_business_day}
-use Rattle.calendar.specs.declared.DateAnswer.{DateAnswer}
-use Rattle.calendar.specs.declared.DateAnswer.TheVariants.{Date, NoDate}
 use Rattle.positions.specs.Postings.{settlement}
 use Rattle.positions.specs.declared.Postings.{Postings}
 use Rattle.events.specs.declared.Event.{Event}
-use Rattle.events.specs.declared.limits.Checked.TheVariants.{Within}
 use Rattle.events.specs.Limits.{checked}
 use Rattle.common.specs.Tests.{among}
 use Rattle.events.proofs.Laws.Limits.{Limited, checked_facts, kind_cases, collect_facts}
@@ -92,9 +90,9 @@ needing_none : {A : Type 0} (x : Known A) (j : Journal) → j ≡ needing x j (�
 needing_none unknown j = refl
 needing_none (known a) j = refl
 
-due_same : (a : DateAnswer) → due_on a ≡ date_found a
-due_same (Date x) = refl
-due_same NoDate = refl
+due_same : (a : Option ℕ) → due_on a ≡ date_found a
+due_same (Some x) = refl
+due_same None = refl
 
 -- FNAL and OOFF are the codes from 2 on
 last_closes : (code : ℕ) → code ≤ 3 → is_last code ≡ closes code
@@ -219,7 +217,7 @@ module _ (j : Journal) (e : Event) (m : Limited e) where
         ),
       )
 
-pub note_action : (j : Journal) (e : Event) → checked e ≡ Within → note j e ≡ note_of j e.date (action_of e)
+pub note_action : (j : Journal) (e : Event) → checked e ≡ (Ok tt) → note j e ≡ note_of j e.date (action_of e)
 note_action j e h = by_kind j e (checked_facts e h)
 
 -- ---- what is counted of a collection
@@ -315,5 +313,5 @@ module _ (sort : Sort) (c : ℕ) (e : Event) (m : Limited e) where
       )
 
 -- an event within its limits counts by its kind as its action does
-pub counted_action : (sort : Sort) (c : ℕ) (e : Event) → checked e ≡ Within → eqb e.a c && among (kinds_of sort) e.kind ≡ treats sort c (action_of e)
+pub counted_action : (sort : Sort) (c : ℕ) (e : Event) → checked e ≡ (Ok tt) → eqb e.a c && among (kinds_of sort) e.kind ≡ treats sort c (action_of e)
 counted_action sort c e h = counted_by_kind sort c e (checked_facts e h)

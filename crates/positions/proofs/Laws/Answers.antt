@@ -1,6 +1,7 @@
 -- Laws of specs/Answers. Names: F-no-entry, F-too-large and F-made give the answer of F and the table after it.
 -- To cite: `post_fits` and `transfer_fits` (a posting within capacity is made), `settlement_of_is`, `reversed_of_is`,
 -- `refunded_of_is`. Assumes nothing.
+use Rattle.std.proofs.Common.{None, Some}
 use mathlib.Core.Path.{◌≡◌, sym, ◌∙◌, ap}
 use mathlib.Core.Bool.{true, false, ◌&&◌}
 use mathlib.Core.List.{List}
@@ -14,7 +15,6 @@ use mir.Syntax.{w64}
 use mir.Val.{SFits}
 use Rattle.common.proofs.Tests.{and_halves, and_true}
 use Rattle.positions.specs.declared.PostAnswer.TheVariants.{Posted, NoEntry, TooLarge}
-use Rattle.positions.specs.declared.PostingsAnswer.TheVariants.{Amounts, OutsideLimits}
 use Rattle.positions.specs.Positions.{has_entry, HasEntry, position, posted, transferred, in_limit}
 use Rattle.positions.specs.Postings.{settlement, reversed, refunded}
 use Rattle.positions.specs.Compensation.{amount_limit}
@@ -170,43 +170,43 @@ module _ (l : List ℤ) (from to : ℕ) (x : ℤ) where
 
 -- ---- what an event posts
 
-pub settlement_of_is : (A : ℕ) → A ≤ amount_limit → settlement_of A ≡ Amounts (settlement A)
+pub settlement_of_is : (A : ℕ) → A ≤ amount_limit → settlement_of A ≡ Some (settlement A)
 unfolding settlement_of
 settlement_of_is A h = rw (le-leb A amount_limit h)
 
-pub settlement_of_outside : (A : ℕ) → amount_limit < A → settlement_of A ≡ OutsideLimits
+pub settlement_of_outside : (A : ℕ) → amount_limit < A → settlement_of A ≡ None
 unfolding settlement_of
 settlement_of_outside A h = rw (lt-leb A amount_limit h)
 
-pub reversed_of_is : (A : ℕ) → A ≤ amount_limit → reversed_of A ≡ Amounts (reversed A)
+pub reversed_of_is : (A : ℕ) → A ≤ amount_limit → reversed_of A ≡ Some (reversed A)
 unfolding reversed_of
 reversed_of_is A h = rw (le-leb A amount_limit h)
 
-pub reversed_of_outside : (A : ℕ) → amount_limit < A → reversed_of A ≡ OutsideLimits
+pub reversed_of_outside : (A : ℕ) → amount_limit < A → reversed_of A ≡ None
 unfolding reversed_of
 reversed_of_outside A h = rw (lt-leb A amount_limit h)
 
-pub refunded_of_is : (A K : ℕ) → A ≤ amount_limit → K ≤ compensation_limit → refunded_of A K ≡ Amounts (refunded A K)
+pub refunded_of_is : (A K : ℕ) → A ≤ amount_limit → K ≤ compensation_limit → refunded_of A K ≡ Some (refunded A K)
 unfolding refunded_of
 refunded_of_is A K h k = rw (le-leb A amount_limit h, le-leb K compensation_limit k)
 
-pub refunded_of_outside : (A K : ℕ) → leb A amount_limit && leb K compensation_limit ≡ false → refunded_of A K ≡ OutsideLimits
+pub refunded_of_outside : (A K : ℕ) → leb A amount_limit && leb K compensation_limit ≡ false → refunded_of A K ≡ None
 unfolding refunded_of
 refunded_of_outside A K e = rw e
 
 -- the amounts as the code makes them, from the 64 bits of what is added and of what is taken
 pub settlement_amounts :
     (A : ℕ) (plus minus : ℤ) → plus ≡ pos A → minus ≡ neg_ℤ (pos A) → A ≤ amount_limit
-    → Amounts (record { debtor = minus; creditor = plus; dbank = minus; cbank = plus; compensation = pos 0 }) ≡ settlement_of A
+    → Some (record { debtor = minus; creditor = plus; dbank = minus; cbank = plus; compensation = pos 0 }) ≡ settlement_of A
 settlement_amounts A plus minus p m h = rw (p, m) (sym (settlement_of_is A h))
 
 pub reversed_amounts :
     (A : ℕ) (plus minus : ℤ) → plus ≡ pos A → minus ≡ neg_ℤ (pos A) → A ≤ amount_limit
-    → Amounts (record { debtor = plus; creditor = minus; dbank = plus; cbank = minus; compensation = pos 0 }) ≡ reversed_of A
+    → Some (record { debtor = plus; creditor = minus; dbank = plus; cbank = minus; compensation = pos 0 }) ≡ reversed_of A
 reversed_amounts A plus minus p m h = rw (p, m, reversed_of_is A h, neg_ℤ-neg_ℤ (pos A))
 
 pub refunded_amounts :
     (A K : ℕ) (back plus minus cents : ℤ) → back ≡ pos A → plus ≡ pos (A + K) → minus ≡ neg_ℤ (pos (A + K))
     → cents ≡ pos K → A ≤ amount_limit → K ≤ compensation_limit
-    → Amounts (record { debtor = back; creditor = minus; dbank = plus; cbank = minus; compensation = cents }) ≡ refunded_of A K
+    → Some (record { debtor = back; creditor = minus; dbank = plus; cbank = minus; compensation = cents }) ≡ refunded_of A K
 refunded_amounts A K back plus minus cents b p m c h k = rw (b, p, m, c) (sym (refunded_of_is A K h k))

@@ -1,5 +1,6 @@
 -- Laws of specs/Compensation. Names: halfUp- speaks of the rounding alone; F-mono says that F keeps the order.
 -- To cite: `compensation_near`, `compensation_half`, `compensation_mono`, `compensation_no_days`. Assumes nothing.
+use Rattle.std.proofs.Common.{None, Some}
 use mathlib.Core.Path.{◌≡◌, refl}
 use mathlib.Core.Bool.{Bool, true, false, cond}
 use mathlib.Core.List.{[], ◌∷◌}
@@ -11,7 +12,6 @@ use lib.Dec.{leb}
 use lib.IntN.{pos, nat_abs, ◌-ℤ◌}
 use Rattle.common.proofs.Tests.{all_of_at}
 use Rattle.positions.proofs.Laws.Integers.{size_between}
-use Rattle.positions.specs.declared.CompensationAnswer.TheVariants.{Cents, OutsideLimits}
 use Rattle.positions.specs.Compensation.{parts_of_cent, interest, half_up, compensation, amount_limit, rate_limit, days_limit, in_limits, InLimits, interest_bound, compensation_of}
 
 -- ---- half_up
@@ -118,20 +118,20 @@ unfolding interest
 interest_fits a r d h =
     omega (arith, interest_mono a amount_limit r rate_limit d days_limit h.high h.rated h.dated)
 
-pub compensation_of_is : (a r d : ℕ) → InLimits a r d → compensation_of a r d ≡ Cents (compensation a r d)
+pub compensation_of_is : (a r d : ℕ) → InLimits a r d → compensation_of a r d ≡ Some (compensation a r d)
 unfolding compensation_of
 compensation_of_is a r d h = rw (parts_in_limits a r d h)
 
-pub compensation_of_cents : (a r d k : ℕ) → compensation_of a r d ≡ Cents k → InLimits a r d × (k ≡ compensation a r d)
+pub compensation_of_cents : (a r d k : ℕ) → compensation_of a r d ≡ Some k → InLimits a r d × (k ≡ compensation a r d)
 unfolding compensation_of
 compensation_of_cents a r d k e = by_test (in_limits a r d) refl e
   where
     by_test :
-        (t : Bool) → in_limits a r d ≡ t → cond t (Cents (compensation a r d)) OutsideLimits ≡ Cents k
+        (t : Bool) → in_limits a r d ≡ t → cond t (Some (compensation a r d)) None ≡ Some k
         → InLimits a r d × (k ≡ compensation a r d)
     by_test true q p = (in_limits_parts a r d q, cc)
     by_test false q p = let z : ◌≡◌ {A = ℕ} 0 1 = cc in absurd (omega arith)
 
-pub compensation_of_outside : (a r d : ℕ) → in_limits a r d ≡ false → compensation_of a r d ≡ OutsideLimits
+pub compensation_of_outside : (a r d : ℕ) → in_limits a r d ≡ false → compensation_of a r d ≡ None
 unfolding compensation_of
 compensation_of_outside a r d e = rw e

@@ -1,5 +1,6 @@
 -- Laws of specs/Products. To cite: `products`; for the code `rate_days_call`, `rate_days_amount_call`, which take an answer by one test,
 -- `rate_days_amount_interest`, `interest_steps` and `rate_days_most`. Assumes nothing.
+use Rattle.std.proofs.Common.{Err, Ok, Result, ℕ}
 use mathlib.Core.Path.{◌≡◌, refl, sym, ap, ◌∙◌}
 use mathlib.Core.Bool.{Bool, true, false, cond, ◌&&◌}
 use mathlib.Core.List.{[], ◌∷◌}
@@ -8,9 +9,8 @@ use native.Mathlib.Nat.{mul_assoc, mul_comm, mul-le-mul, mul-one}
 use lib.Dec.{leb}
 use Rattle.common.specs.Checks.{check, judged}
 use Rattle.common.specs.Tests.{all_of}
+use Rattle.refusals.specs.declared.Refusal.{Refusal}
 use Rattle.refusals.specs.declared.Refusal.TheVariants.{BadField}
-use Rattle.positions.specs.declared.ProductAnswer.{ProductAnswer}
-use Rattle.positions.specs.declared.ProductAnswer.TheVariants.{Product, Refused}
 use Rattle.positions.specs.Compensation.{interest, compensation, amount_limit, rate_limit, days_limit, in_limits, compensation_of}
 use Rattle.positions.specs.Products.{rate_days, rate_days_amount, rate_days_checks, rate_days_amount_checks, rate_days_answer, rate_days_amount_answer, product_number, product_value, RateDaysCall, RateDaysAmountCall, cents_of, Products}
 
@@ -56,11 +56,11 @@ judged_four true true true d bad good = refl
 -- ---- the calls
 
 -- the number and the value of an answer by one test
-parts : (t : Bool) (p : ℕ) {r : ProductAnswer}
-    → r ≡ cond t (Product p) (Refused BadField) → (product_number r ≡ cond t 0 5) × (product_value r ≡ cond t p 0)
+parts : (t : Bool) (p : ℕ) {r : (Result ℕ Refusal)}
+    → r ≡ cond t (Ok p) (Err BadField) → (product_number r ≡ cond t 0 5) × (product_value r ≡ cond t p 0)
 parts t p e = (
-  ap product_number e ∙ cond_ap product_number t (Product p) (Refused BadField),
-  ap product_value e ∙ cond_ap product_value t (Product p) (Refused BadField),
+  ap product_number e ∙ cond_ap product_number t (Ok p) (Err BadField),
+  ap product_value e ∙ cond_ap product_value t (Ok p) (Err BadField),
 )
 
 module _ (days rate : ℕ) where
@@ -71,12 +71,12 @@ module _ (days rate : ℕ) where
   one_test bad good = judged_two (leb days days_limit) (leb rate rate_limit) bad good
 
   pub rate_days_call :
-      (r : ProductAnswer) → r ≡ cond (leb days days_limit && leb rate rate_limit) (Product (rate_days days rate)) (Refused BadField) → RateDaysCall days rate r
+      (r : Result ℕ Refusal) → r ≡ cond (leb days days_limit && leb rate rate_limit) (Ok (rate_days days rate)) (Err BadField) → RateDaysCall days rate r
   unfolding rate_days_answer rate_days
   rate_days_call r e =
       let p = days * rate in
       record {
-        answer_is = e ∙ sym (one_test (Refused BadField) (Product p));
+        answer_is = e ∙ sym (one_test (Err BadField) (Ok p));
         number_is = (parts both_in p e).0 ∙ sym (one_test 5 0);
         value_is = (parts both_in p e).1 ∙ sym (one_test 0 p);
       }
@@ -86,14 +86,14 @@ module _ (days rate amount : ℕ) where
   one_test_of_all bad good = judged_four (leb 1 amount) (leb amount amount_limit) (leb rate rate_limit) (leb days days_limit) bad good
 
   pub rate_days_amount_call :
-      (r : ProductAnswer) → r ≡ cond (in_limits amount rate days) (Product (rate_days_amount days rate amount)) (Refused BadField)
+      (r : Result ℕ Refusal) → r ≡ cond (in_limits amount rate days) (Ok (rate_days_amount days rate amount)) (Err BadField)
       → RateDaysAmountCall days rate amount r
   unfolding rate_days_amount_answer rate_days_amount rate_days
   rate_days_amount_call r e =
       let p = days * rate * amount in
       let all_in = in_limits amount rate days in
       record {
-        answer_is = e ∙ sym (one_test_of_all (Refused BadField) (Product p));
+        answer_is = e ∙ sym (one_test_of_all (Err BadField) (Ok p));
         number_is = (parts all_in p e).0 ∙ sym (one_test_of_all 5 0);
         value_is = (parts all_in p e).1 ∙ sym (one_test_of_all 0 p);
       }
@@ -101,9 +101,9 @@ module _ (days rate amount : ℕ) where
   cents_same : cents_of (rate_days_amount_answer days rate amount) ≡ compensation_of amount rate days
   unfolding rate_days_amount_answer compensation_of compensation
   cents_same =
-      let product = Product (rate_days_amount days rate amount) in
-      ap cents_of (one_test_of_all (Refused BadField) product)
-      ∙ cond_ap cents_of (in_limits amount rate days) product (Refused BadField)
+      let product = Ok (rate_days_amount days rate amount) in
+      ap cents_of (one_test_of_all (Err BadField) product)
+      ∙ cond_ap cents_of (in_limits amount rate days) product (Err BadField)
       ∙ rw (rate_days_amount_interest days rate amount)
 
 one_cent : (days rate : ℕ) → rate_days_amount_answer days rate 1 ≡ rate_days_answer days rate

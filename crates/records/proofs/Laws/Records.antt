@@ -1,6 +1,7 @@
 -- Laws of specs/Records: what an accepted event passed, the records that it writes, and that answers and effects are the model's
 -- where the rows are those of the numbers. To cite: `creditor_number`, `mandate_room`, `collect_room`; `presented_on_made`,
 -- `new_collection_made`; `creditor_ruled`, `mandate_ruled`, `change_ruled`, `collect_ruled`. Assumes nothing.
+use Rattle.std.proofs.Common.{Err, None, Ok, Option, Result, Some, ℕ}
 use mathlib.Core.Path.{◌≡◌, refl, sym}
 use mathlib.Core.Bool.{false, true, Bool, not, ◌&&◌}
 use mathlib.Core.List.{List}
@@ -12,8 +13,6 @@ use lib.ListN.{length}
 use Rattle.common.specs.Checks.{judged}
 use Rattle.common.proofs.Tests.{never, and_halves}
 use Rattle.refusals.specs.declared.Refusal.{Refusal}
-use Rattle.tables.specs.declared.Found.{Found}
-use Rattle.tables.specs.declared.Found.TheVariants.{At, Nothing}
 use Rattle.tables.specs.declared.Mandate.{Mandate}
 use Rattle.tables.specs.declared.Collection.{Collection}
 use Rattle.tables.specs.declared.Standing.{Standing}
@@ -23,8 +22,6 @@ use Rattle.tables.specs.Lookup.{existing, lookup}
 use Rattle.tables.proofs.Laws.Lookup.{lookup_at}
 use Rattle.tables.specs.Records.{remade}
 use Rattle.tables.specs.Rows.{rows, mandate_at, collection_at}
-use Rattle.model.specs.declared.Answer.{Answer}
-use Rattle.model.specs.declared.Answer.TheVariants.{Accepted, Refused}
 use Rattle.model.specs.declared.Action.TheVariants.{AddCreditor, AddMandate, ChangeMandate, Collect}
 use Rattle.model.specs.declared.Change.{Change}
 use Rattle.model.specs.declared.Presentation.{Presentation}
@@ -35,37 +32,36 @@ use Rattle.model.specs.Effects.{effect, presented_on, new_collection}
 use Rattle.checking.specs.declared.Outcome.{Outcome}
 use Rattle.checking.specs.Calls.{is_found, used_row, Done}
 use Rattle.checking.proofs.Laws.Calls.{done_same, judged_passes, then_answer, judged_then}
-use Rattle.records.specs.declared.collects.CollectVerdict.TheVariants.{Refuse, Go}
 use Rattle.records.specs.Records.{mandate_terms, date_terms, verdict_by, standing_after, mandate_in, collect_judged, creditor_checks, creditor_answer, CreditorAdded, mandate_checks, mandate_answer, MandateAdded, change_checks, change_answer, change_effect, MandateChanged, collect_checks, collect_answer, collect_effect, Collected}
 
 -- ---- what an accepted event passed
 
-pub creditor_number : (l : Ledger) (date number : ℕ) → creditor_answer l date number ≡ Accepted → (1 ≤ number) × (number ≤ length l.creditors)
+pub creditor_number : (l : Ledger) (date number : ℕ) → creditor_answer l date number ≡ (Ok tt) → (1 ≤ number) × (number ≤ length l.creditors)
 creditor_number l date number e =
     let h = and_halves (leb 1 number) (judged_passes (creditor_checks l date number) refl e 2) in
     (leb-true 1 number h.0, leb-true number (length l.creditors) h.1)
 
-pub mandate_room : (found : Found) (l : Ledger) (date : ℕ) (m : Mandate) → mandate_answer found l date m ≡ Accepted → l.mandates_used < rows l.mandates
+pub mandate_room : (found : Option ℕ) (l : Ledger) (date : ℕ) (m : Mandate) → mandate_answer found l date m ≡ (Ok tt) → l.mandates_used < rows l.mandates
 mandate_room found l date m e =
     ltb-true l.mandates_used (rows l.mandates) (judged_passes (mandate_checks found l date m) refl e 3)
 
-module _ (latest date : ℕ) (p : Presentation) (there : Bool) (collection : Found) (used count : ℕ) (m : Mandate) where
-  pub collect_room : collect_judged latest date p there collection (ltb used count) m ≡ Accepted → used < count
+module _ (latest date : ℕ) (p : Presentation) (there : Bool) (collection : Option ℕ) (used count : ℕ) (m : Mandate) where
+  pub collect_room : collect_judged latest date p there collection (ltb used count) m ≡ (Ok tt) → used < count
   collect_room e = ltb-true used count (judged_passes (collect_checks latest date p there collection (ltb used count) m) refl e 3)
 
 -- ---- the verdict on a collect
 
-module _ (latest date : ℕ) (p : Presentation) (there : Bool) (collection : Found) (room : Bool) (m : Mandate) where
-  pub collect_then : collect_judged latest date p there collection room m ≡ then_answer (judged (mandate_terms latest date p there collection room m) Accepted) (judged (date_terms date p m) Accepted)
+module _ (latest date : ℕ) (p : Presentation) (there : Bool) (collection : Option ℕ) (room : Bool) (m : Mandate) where
+  pub collect_then : collect_judged latest date p there collection room m ≡ then_answer (judged (mandate_terms latest date p there collection room m) (Ok tt)) (judged (date_terms date p m) (Ok tt))
   collect_then = judged_then (mandate_terms latest date p there collection room m) (date_terms date p m) refl
 
-pub verdict_go : (a : Answer) (due x : ℕ) → verdict_by a due ≡ Go x → (a ≡ Accepted) × (x ≡ due)
-verdict_go Accepted due x e = (refl, cc)
-verdict_go (Refused r) due x e = let z : ◌≡◌ {A = ℕ} 0 1 = cc in absurd (omega arith)
+pub verdict_go : (a : Result Unit Refusal) (due x : ℕ) → verdict_by a due ≡ Ok x → (a ≡ (Ok tt)) × (x ≡ due)
+verdict_go (Ok tt) due x e = (refl, cc)
+verdict_go (Err r) due x e = let z : ◌≡◌ {A = ℕ} 0 1 = cc in absurd (omega arith)
 
-pub verdict_refuse : (a : Answer) (due : ℕ) (r : Refusal) → verdict_by a due ≡ Refuse r → a ≡ Refused r
-verdict_refuse Accepted due r e = let z : ◌≡◌ {A = ℕ} 0 1 = cc in absurd (omega arith)
-verdict_refuse (Refused x) due r e = cc
+pub verdict_refuse : (a : Result Unit Refusal) (due : ℕ) (r : Refusal) → verdict_by a due ≡ Err r → a ≡ Err r
+verdict_refuse (Ok tt) due r e = let z : ◌≡◌ {A = ℕ} 0 1 = cc in absurd (omega arith)
+verdict_refuse (Err x) due r e = cc
 
 -- ---- the records that are written
 
@@ -80,9 +76,9 @@ module _ (p : Presentation) (m : Mandate) (due : ℕ) (e : due ≡ kept_due p.re
 
 -- ---- the model's answers and effects
 
-is_known_row : {A : Type 0} (found : Found) (f : ℕ → A) → is_known (in_row found f) ≡ is_found found
-is_known_row (At row) f = refl
-is_known_row Nothing f = refl
+is_known_row : {A : Type 0} (found : Option ℕ) (f : ℕ → A) → is_known (in_row found f) ≡ is_found found
+is_known_row (Some row) f = refl
+is_known_row None f = refl
 
 is_known_mandate : (l : Ledger) (number : ℕ) → is_known (mandate_of l number) ≡ is_found (lookup l.mandates l.mandates_used number)
 unfolding mandate_of
@@ -99,30 +95,30 @@ module _ (l : Ledger) (date : ℕ) (r : Outcome) (l' : Ledger) where
       done_same _ _ l _ _ r l' (rw (le-leb 1 number h, le-leb number (length l.creditors) k)) (λ _. refl) d
 
   pub mandate_ruled :
-      (found : Found) (m : Mandate) → found ≡ lookup l.mandates l.mandates_used m.number
+      (found : Option ℕ) (m : Mandate) → found ≡ lookup l.mandates l.mandates_used m.number
       → MandateAdded found l date m r l' → Done (ruled l date (AddMandate m)) l (effect l date (AddMandate m)) r l'
   unfolding ruled effect
   mandate_ruled found m e d =
       done_same _ _ l _ _ r l' (rw (is_known_mandate l m.number, e)) (λ _. refl) d
 
 -- a row that a lookup finds is a used one
-found_used : (cells : List ℕ) (used number row : ℕ) → lookup cells used number ≡ At row → used_row cells used (At row) ≡ true
+found_used : (cells : List ℕ) (used number row : ℕ) → lookup cells used number ≡ Some row → used_row cells used (Some row) ≡ true
 found_used cells used number row e = lt-ltb row (existing cells used) (lookup_at cells used number row e).existing_row
 
 module _ (l : Ledger) (date number : ℕ) (c : Change) where
-  change_answer_lem : (f : Found) → lookup l.mandates l.mandates_used number ≡ f → change_answer f l date c ≡ ruled l date (ChangeMandate number c)
+  change_answer_lem : (f : Option ℕ) → lookup l.mandates l.mandates_used number ≡ f → change_answer f l date c ≡ ruled l date (ChangeMandate number c)
   unfolding ruled mandate_of
-  change_answer_lem Nothing e = rw e
-  change_answer_lem (At row) e = rw (e, found_used l.mandates l.mandates_used number row e)
+  change_answer_lem None e = rw e
+  change_answer_lem (Some row) e = rw (e, found_used l.mandates l.mandates_used number row e)
 
-  change_effect_lem : (f : Found) → lookup l.mandates l.mandates_used number ≡ f → change_answer f l date c ≡ Accepted → change_effect f l date c ≡ effect l date (ChangeMandate number c)
+  change_effect_lem : (f : Option ℕ) → lookup l.mandates l.mandates_used number ≡ f → change_answer f l date c ≡ (Ok tt) → change_effect f l date c ≡ effect l date (ChangeMandate number c)
   unfolding effect
-  change_effect_lem Nothing e a =
-      absurd (never (judged_passes (change_checks l.latest date c false (mandate_in Nothing l) l.creditors) refl a 1) refl)
-  change_effect_lem (At row) e a = rw e
+  change_effect_lem None e a =
+      absurd (never (judged_passes (change_checks l.latest date c false (mandate_in None l) l.creditors) refl a 1) refl)
+  change_effect_lem (Some row) e a = rw e
 
 pub change_ruled :
-    (l : Ledger) (date : ℕ) (r : Outcome) (l' : Ledger) (found : Found) (number : ℕ) (c : Change)
+    (l : Ledger) (date : ℕ) (r : Outcome) (l' : Ledger) (found : Option ℕ) (number : ℕ) (c : Change)
     → found ≡ lookup l.mandates l.mandates_used number
     → MandateChanged found l date c r l' → Done (ruled l date (ChangeMandate number c)) l (effect l date (ChangeMandate number c)) r l'
 change_ruled l date r l' found number c e d =
@@ -130,23 +126,23 @@ change_ruled l date r l' found number c e d =
 
 module _ (l : Ledger) (date : ℕ) (p : Presentation) where
   collect_answer_lem :
-      (f g : Found) → lookup l.mandates l.mandates_used p.mandate ≡ f → g ≡ lookup l.collections l.collections_used p.collection
+      (f g : Option ℕ) → lookup l.mandates l.mandates_used p.mandate ≡ f → g ≡ lookup l.collections l.collections_used p.collection
       → collect_answer f g l date p ≡ ruled l date (Collect p)
   unfolding ruled mandate_of
-  collect_answer_lem Nothing g e q = rw (e, is_known_collection l p.collection, q)
-  collect_answer_lem (At row) g e q = rw (e, is_known_collection l p.collection, q, found_used l.mandates l.mandates_used p.mandate row e)
+  collect_answer_lem None g e q = rw (e, is_known_collection l p.collection, q)
+  collect_answer_lem (Some row) g e q = rw (e, is_known_collection l p.collection, q, found_used l.mandates l.mandates_used p.mandate row e)
 
-  collect_effect_lem : (f g : Found) → lookup l.mandates l.mandates_used p.mandate ≡ f → collect_answer f g l date p ≡ Accepted → collect_effect f l date p ≡ effect l date (Collect p)
+  collect_effect_lem : (f g : Option ℕ) → lookup l.mandates l.mandates_used p.mandate ≡ f → collect_answer f g l date p ≡ (Ok tt) → collect_effect f l date p ≡ effect l date (Collect p)
   unfolding effect
-  collect_effect_lem Nothing g e a =
+  collect_effect_lem None g e a =
       absurd
       (never
-      (judged_passes (collect_checks l.latest date p false g (ltb l.collections_used (rows l.collections)) (mandate_in Nothing l)) refl a 2)
+      (judged_passes (collect_checks l.latest date p false g (ltb l.collections_used (rows l.collections)) (mandate_in None l)) refl a 2)
       refl)
-  collect_effect_lem (At row) g e a = rw e
+  collect_effect_lem (Some row) g e a = rw e
 
 pub collect_ruled :
-    (l : Ledger) (date : ℕ) (r : Outcome) (l' : Ledger) (mandate collection : Found) (p : Presentation)
+    (l : Ledger) (date : ℕ) (r : Outcome) (l' : Ledger) (mandate collection : Option ℕ) (p : Presentation)
     → mandate ≡ lookup l.mandates l.mandates_used p.mandate → collection ≡ lookup l.collections l.collections_used p.collection
     → Collected mandate collection l date p r l' → Done (ruled l date (Collect p)) l (effect l date (Collect p)) r l'
 collect_ruled l date r l' mandate collection p e q d =

@@ -1,5 +1,6 @@
 -- Laws of specs/Replay: how far a replay has come. To cite: `Running` with `running_start`, `running_step`, `running_end`;
 -- `replayed_refused`, `replayed_done`. Assumes nothing.
+use Rattle.std.proofs.Common.{Err, Ok, Result}
 use mathlib.Core.Path.{◌≡◌, refl, sym, ap, ◌∙◌}
 use mathlib.Core.Bool.{true, false}
 use mathlib.Core.Logic.{⊎_elim}
@@ -13,8 +14,6 @@ use Rattle.refusals.specs.declared.Refusal.{Refusal}
 use Rattle.refusals.proofs.Laws.Refusals.{number_of_pos}
 use Rattle.events.specs.declared.Event.{Event}
 use Rattle.tables.specs.declared.Header.{Header}
-use Rattle.opening.specs.declared.OpenAnswer.{OpenAnswer}
-use Rattle.opening.specs.declared.OpenAnswer.TheVariants.{Opened, Refused}
 use Rattle.opening.specs.declared.OpenOutcome.{OpenOutcome}
 use Rattle.tables.specs.Ledger.{Ledger}
 use Rattle.fitness.specs.Fitness.{sizes_fit}
@@ -60,7 +59,7 @@ running_end events l₀ l i h e = h.is ∙ ap (λ (n : ℕ). run l₀ (events_to
 opening_number : (n : ℕ) (l l' : Ledger) → open_result n l' ≡ opening l → (n ≡ (opening l).number) × (l' ≡ (opening l).after)
 opening_number n l l' e = (ap (λ (o : OpenResult). o.number) e, ap (λ (o : OpenResult). o.after) e)
 
-module _ (l l' : Ledger) (a : OpenAnswer) (e : open_result (open_number a) l' ≡ opening l) where
+module _ (l l' : Ledger) (a : Result Unit Refusal) (e : open_result (open_number a) l' ≡ opening l) where
   -- what an accepted opening says
   pub record WasOpened : Type 0 where
     pub sizes : sizes_fit l ≡ true
@@ -77,7 +76,7 @@ module _ (l l' : Ledger) (a : OpenAnswer) (e : open_result (open_number a) l' �
       let p = opening_number (open_number a) l l' e in
       (p.0 ∙ ap (λ (x : OpenResult). x.number) o, p.1 ∙ ap (λ (x : OpenResult). x.after) o)
 
-  pub was_opened : a ≡ Opened → WasOpened
+  pub was_opened : a ≡ (Ok tt) → WasOpened
   was_opened o =
       let n = ap open_number o in
       ⊎_elim
@@ -88,7 +87,7 @@ module _ (l l' : Ledger) (a : OpenAnswer) (e : open_result (open_number a) l' �
       (λ (z : sizes_fit l ≡ false). let p = parts 2 l (opening_refused l z) in absurd (omega arith))
       (true_or_false (sizes_fit l))
 
-  pub was_refused : (r : Refusal) → a ≡ Refused r → WasRefused
+  pub was_refused : (r : Refusal) → a ≡ Err r → WasRefused
   was_refused r o =
       let n = ap open_number o in
       let h = number_of_pos r in
@@ -100,7 +99,7 @@ module _ (l l' : Ledger) (a : OpenAnswer) (e : open_result (open_number a) l' �
 -- ---- the whole call
 
 module _ (l : Ledger) (events : List ℕ) where
-  pub replayed_refused : (r : OpenOutcome) (l' : Ledger) (x : Refusal) → r.answer ≡ Refused x → open_result (open_number r.answer) l' ≡ opening l → Replayed l (events_in events) r l'
+  pub replayed_refused : (r : OpenOutcome) (l' : Ledger) (x : Refusal) → r.answer ≡ Err x → open_result (open_number r.answer) l' ≡ opening l → Replayed l (events_in events) r l'
   replayed_refused r l' x q e =
       let w = was_refused l l' r.answer e x q in
       let p = parts l l' r.answer e 2 l (opening_refused l w.sizes) in
@@ -110,7 +109,7 @@ module _ (l : Ledger) (events : List ℕ) where
         kept = λ z. absurd (never z w.sizes);
       }
 
-  pub replayed_done : (r : OpenOutcome) (h : Header) (l' l'' : Ledger) → r.answer ≡ Opened → open_result (open_number r.answer) l' ≡ opening l → l'' ≡ run l' (events_in events) → Replayed l (events_in events) (record { answer = Opened; header = h }) l''
+  pub replayed_done : (r : OpenOutcome) (h : Header) (l' l'' : Ledger) → r.answer ≡ (Ok tt) → open_result (open_number r.answer) l' ≡ opening l → l'' ≡ run l' (events_in events) → Replayed l (events_in events) (record { answer = (Ok tt); header = h }) l''
   replayed_done r h l' l'' o e q =
       let w = was_opened l l' r.answer e o in
       record {

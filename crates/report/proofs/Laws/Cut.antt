@@ -1,5 +1,6 @@
 -- Laws of specs/Cut. To cite: `FirstEnd` with `end_from_at`, `end_from_none`, `end_from_first`, `end_from_past`, and `end_from_cases`, from which both
 -- follow; `Endless` with `is_none_endless`. The rest serves the functions of src/cut.rt. Assumes nothing.
+use Rattle.std.proofs.Common.{None, Option, Some, ℕ}
 use mathlib.Core.Path.{◌≡◌, refl, sym, ap, ◌∙◌}
 use mathlib.Core.Bool.{Bool, true, false, not, ◌&&◌, and-true, and-false}
 use mathlib.Core.List.{List}
@@ -15,8 +16,6 @@ use Rattle.common.specs.Walk.{first_from}
 use Rattle.common.proofs.Tests.{never, true_or_false, false_unless}
 use Rattle.common.proofs.Walk.{first_from_hit, first_from_miss, first_from_end, cases_from}
 use Rattle.lines.specs.Line.{line_end}
-use Rattle.report.specs.declared.cut.LineEnd.{LineEnd}
-use Rattle.report.specs.declared.cut.LineEnd.TheVariants.{At, NoEnd}
 use Rattle.report.specs.Cut.{ends_at, end_from, is_none, is_at}
 
 -- no byte of it ends a line
@@ -31,16 +30,16 @@ pub record FirstEnd (text : List ℕ) (from k : ℕ) : Type 0 where
   pub none_before : (j : ℕ) → from ≤ j → j < k → get_or text j 0 ≢ line_end
 
 module _ (text : List ℕ) (from : ℕ) where
-  pub end_from_walk : first_from (ends_at text) At NoEnd from (length text - from) ≡ end_from text from
+  pub end_from_walk : first_from (ends_at text) Some None from (length text - from) ≡ end_from text from
   unfolding end_from
   end_from_walk = refl
 
   pub end_from_cases :
-      (P : LineEnd → Type 0) → ((k : ℕ) → FirstEnd text from k → P (At k))
-      → (((j : ℕ) → from ≤ j → j < length text → get_or text j 0 ≢ line_end) → P NoEnd) → P (end_from text from)
+      (P : Option ℕ → Type 0) → ((k : ℕ) → FirstEnd text from k → P (Some k))
+      → (((j : ℕ) → from ≤ j → j < length text → get_or text j 0 ≢ line_end) → P None) → P (end_from text from)
   unfolding end_from
   end_from_cases P found none =
-      cases_from (ends_at text) At NoEnd P from (length text - from)
+      cases_from (ends_at text) Some None P from (length text - from)
       (λ k lo hi e below.
       found k
       (record {
@@ -51,30 +50,30 @@ module _ (text : List ℕ) (from : ℕ) where
       }))
       (λ below. none (λ j l h. eqb-false (get_or text j 0) line_end (below j l (omega arith))))
 
-  pub end_from_at : (k : ℕ) → end_from text from ≡ At k → FirstEnd text from k
+  pub end_from_at : (k : ℕ) → end_from text from ≡ Some k → FirstEnd text from k
   end_from_at k e =
-      end_from_cases (λ (a : LineEnd). a ≡ At k → FirstEnd text from k)
+      end_from_cases (λ (a : Option ℕ). a ≡ Some k → FirstEnd text from k)
       (λ i f q. let p : i ≡ k = cc in rw (← p) f)
       (λ none q. absurd (no_at q))
       e
     where
-      no_at : NoEnd ≡ At k → ⊥
+      no_at : None ≡ Some k → ⊥
       no_at q = let z : ◌≡◌ {A = ℕ} 0 1 = cc in absurd (omega arith)
 
-  pub end_from_none : end_from text from ≡ NoEnd → (j : ℕ) → from ≤ j → j < length text → get_or text j 0 ≢ line_end
+  pub end_from_none : end_from text from ≡ None → (j : ℕ) → from ≤ j → j < length text → get_or text j 0 ≢ line_end
   end_from_none e =
-      end_from_cases (λ (a : LineEnd). a ≡ NoEnd → (j : ℕ) → from ≤ j → j < length text → get_or text j 0 ≢ line_end)
+      end_from_cases (λ (a : Option ℕ). a ≡ None → (j : ℕ) → from ≤ j → j < length text → get_or text j 0 ≢ line_end)
       (λ k f q. absurd (no_end k q))
       (λ none q. none)
       e
     where
-      no_end : (k : ℕ) → At k ≡ NoEnd → ⊥
+      no_end : (k : ℕ) → Some k ≡ None → ⊥
       no_end k q = let z : ◌≡◌ {A = ℕ} 0 1 = cc in absurd (omega arith)
 
-  pub end_from_first : (k : ℕ) → FirstEnd text from k → end_from text from ≡ At k
+  pub end_from_first : (k : ℕ) → FirstEnd text from k → end_from text from ≡ Some k
   end_from_first k f =
-      end_from_cases (λ (a : LineEnd). a ≡ At k)
-      (λ i g. ap At (same i g))
+      end_from_cases (λ (a : Option ℕ). a ≡ Some k)
+      (λ i g. ap Some (same i g))
       (λ none. absurd (none k f.onward f.inside f.ends))
     where
       same : (i : ℕ) → FirstEnd text from i → i ≡ k
@@ -109,7 +108,7 @@ module _ (text : List ℕ) (from k : ℕ) (h : from + k ≤ length text) (none :
 
   pub end_from_past : end_from text (from + k) ≡ end_from text from
   end_from_past =
-      end_from_cases text (from + k) (λ (a : LineEnd). a ≡ end_from text from)
+      end_from_cases text (from + k) (λ (a : Option ℕ). a ≡ end_from text from)
       (λ i f.
       sym
       (end_from_first text from i
@@ -123,46 +122,46 @@ module _ (text : List ℕ) (from k : ℕ) (h : from + k ≤ length text) (none :
             (true_or_false (leb (from + k) j));
       })))
       (λ g.
-      end_from_cases text from (λ (a : LineEnd). NoEnd ≡ a) (λ i f. absurd (none_at_all g i f.onward f.inside f.ends)) (λ n. refl))
+      end_from_cases text from (λ (a : Option ℕ). None ≡ a) (λ i f. absurd (none_at_all g i f.onward f.inside f.ends)) (λ n. refl))
 
   -- a line that ends behind them
-  end_from_behind : from + k < length text → get_or text (from + k) 0 ≡ line_end → end_from text from ≡ At (from + k)
+  end_from_behind : from + k < length text → get_or text (from + k) 0 ≡ line_end → end_from text from ≡ Some (from + k)
   end_from_behind l e =
       end_from_first text from (from + k) (record { onward = omega arith; inside = l; ends = e; none_before = endless_before })
 
 -- ---- the answers of the code
 
-none_is : (a : LineEnd) → is_none a ≡ true → a ≡ NoEnd
-none_is NoEnd e = refl
-none_is (At i) e = absurd (never e refl)
+none_is : (a : Option ℕ) → is_none a ≡ true → a ≡ None
+none_is None e = refl
+none_is (Some i) e = absurd (never e refl)
 
-pub is_at_true : (k : ℕ) (a : LineEnd) → is_at k a ≡ true → a ≡ At k
-is_at_true k NoEnd e = absurd (never e refl)
-is_at_true k (At i) e = ap At (eqb-true i k e)
+pub is_at_true : (k : ℕ) (a : Option ℕ) → is_at k a ≡ true → a ≡ Some k
+is_at_true k None e = absurd (never e refl)
+is_at_true k (Some i) e = ap Some (eqb-true i k e)
 
 pub is_none_endless : (text : List ℕ) → is_none (end_from text 0) ≡ true → Endless text
 is_none_endless text e j h = end_from_none text 0 (none_is (end_from text 0) e) j (omega arith) h
 
 endless_none : (text : List ℕ) → Endless text → is_none (end_from text 0) ≡ true
 endless_none text e =
-    end_from_cases text 0 (λ (a : LineEnd). is_none a ≡ true) (λ k f. absurd (e k f.inside f.ends)) (λ n. refl)
+    end_from_cases text 0 (λ (a : Option ℕ). is_none a ≡ true) (λ k f. absurd (e k f.inside f.ends)) (λ n. refl)
 
 -- one byte more that ends no line
 pub none_step : (text : List ℕ) (i : ℕ) (none : Bool) → i < length text → (none && not (ends_at text i)) && is_none (end_from text (i + 1)) ≡ none && is_none (end_from text i)
 none_step text i none h =
     ⊎_elim
     (λ (e : ends_at text i ≡ true).
-    let f : end_from text i ≡ At i = sym (end_from_walk text i) ∙ first_from_hit (ends_at text) At NoEnd i (length text) h e in
+    let f : end_from text i ≡ Some i = sym (end_from_walk text i) ∙ first_from_hit (ends_at text) Some None i (length text) h e in
     rw (e, f, and-false none))
     (λ (e : ends_at text i ≡ false).
     let f : end_from text i ≡ end_from text (i + 1) =
-    sym (end_from_walk text i) ∙ first_from_miss (ends_at text) At NoEnd i (length text) h e ∙ end_from_walk text (i + 1) in
+    sym (end_from_walk text i) ∙ first_from_miss (ends_at text) Some None i (length text) h e ∙ end_from_walk text (i + 1) in
     rw (e, f, and-true none))
     (true_or_false (ends_at text i))
 
 pub none_end : (text : List ℕ) (i : ℕ) (none : Bool) → length text ≤ i → none ≡ none && is_none (end_from text i)
 none_end text i none h =
-    let f : end_from text i ≡ NoEnd = sym (end_from_walk text i) ∙ first_from_end (ends_at text) At NoEnd i (length text) h in
+    let f : end_from text i ≡ None = sym (end_from_walk text i) ∙ first_from_end (ends_at text) Some None i (length text) h in
     rw (f, and-true none)
 
 -- the line from a place on does not end k bytes on: the text is too short, or another byte stands there
@@ -182,7 +181,7 @@ module _ (text : List ℕ) (from k : ℕ) where
       let part = take (from + k - from) (drop from text) in
       ⊎_elim
       (λ (e : is_none (end_from part 0) ≡ true).
-      let f : end_from text from ≡ At (from + k) = end_from_behind text from k (omega arith) (is_none_endless part e) h g in
+      let f : end_from text from ≡ Some (from + k) = end_from_behind text from k (omega arith) (is_none_endless part e) h g in
       rw (e, f) (sym (eq-eqb (from + k) (from + k) refl)))
       (λ (e : is_none (end_from part 0) ≡ false).
       e

@@ -1,4 +1,5 @@
 -- Laws of specs/Lines: the run over a text is that over its lines. To cite: `line_by_line` (specs/Promises). Assumes nothing.
+use Rattle.std.proofs.Common.{Err, Ok, Result}
 use mathlib.Core.Path.{◌≡◌, refl, sym, ap, ◌∙◌}
 use mathlib.Core.Bool.{Bool, true, false}
 use mathlib.Core.Logic.{⊎_elim}
@@ -11,15 +12,12 @@ use lib.Dec.{eqb, ltb}
 use lib.ListN.{length, take, length-take}
 use Rattle.common.proofs.Tests.{true_or_false}
 use Rattle.common.proofs.Walk.{one_more, none_left}
+use Rattle.refusals.specs.declared.Refusal.{Refusal}
 use Rattle.refusals.specs.Refusals.{number_of}
 use Rattle.refusals.proofs.Laws.Refusals.{number_of_pos}
 use Rattle.events.specs.declared.Event.{Event}
-use Rattle.lines.specs.declared.line.LineAnswer.{LineAnswer}
-use Rattle.lines.specs.declared.line.LineAnswer.TheVariants as lines
 use Rattle.lines.specs.Line.{line_end, read_line}
 use Rattle.tables.specs.Ledger.{Ledger}
-use Rattle.model.specs.declared.Answer.{Answer}
-use Rattle.model.specs.declared.Answer.TheVariants.{Accepted, Refused}
 use Rattle.model.specs.Step.{answer_number, is_accepted, answer, after, run, Entry, entry, history}
 use Rattle.report.specs.Layout.{last_number, answer_line}
 use Rattle.run.specs.Run.{Run, run_at, clipped_length, clipped, answer_to, after_line, ended, line_output, take_byte, byte_output, take_text, text_output}
@@ -34,10 +32,10 @@ unfolding run
 run_both [] fs l = refl
 run_both (e ∷ es) fs l = run_both es fs (after l e)
 
-line_book : (l : Ledger) (a : LineAnswer) → after_line l a ≡ run l (event_in a)
+line_book : (l : Ledger) (a : Result Event Refusal) → after_line l a ≡ run l (event_in a)
 unfolding run
-line_book l (lines.Taken e) = refl
-line_book l (lines.Refused r) = refl
+line_book l (Ok e) = refl
+line_book l (Err r) = refl
 
 lines_book : (l : Ledger) (line : List ℕ) (rest : List (List ℕ)) → run (after_line l (read_line line)) (events_of rest) ≡ run l (events_of (line ∷ rest))
 unfolding events_of
@@ -47,22 +45,22 @@ lines_book l line rest =
 
 -- ---- the history of the answers
 
-accepted_zero : (a : Answer) → is_accepted a ≡ eqb (answer_number a) 0
-accepted_zero Accepted = refl
-accepted_zero (Refused r) = sym (ne_eqb (number_of r) 0 (λ e. omega (arith, number_of_pos r)))
+accepted_zero : (a : Result Unit Refusal) → is_accepted a ≡ eqb (answer_number a) 0
+accepted_zero (Ok tt) = refl
+accepted_zero (Err r) = sym (ne_eqb (number_of r) 0 (λ e. omega (arith, number_of_pos r)))
 
 output_history : (rest : List (List ℕ)) (l : Ledger) → history l (events_of rest) ≡ history_of rest (answers_of l rest)
 unfolding history events_of answers_of history_of
 output_history [] l = refl
 output_history (line ∷ rest) l = by_line (read_line line) (λ m. output_history rest m)
   where
-    by_line : (a : LineAnswer)
+    by_line : (a : Result Event Refusal)
         → ((m : Ledger) → history m (events_of rest) ≡ history_of rest (answers_of m rest))
         → history l (event_in a ++ events_of rest) ≡ entry_in a (answer_number (answer_to l a)) ++ history_of rest (answers_of (after_line l a) rest)
-    by_line (lines.Taken e) on =
+    by_line (Ok e) on =
         ap (λ (b : Bool). entry e b ∷ history (after l e) (events_of rest)) (accepted_zero (answer l e))
         ∙ ap (λ (h : List Entry). entry e (eqb (answer_number (answer l e)) 0) ∷ h) (on (after l e))
-    by_line (lines.Refused r) on = on l
+    by_line (Err r) on = on l
 
 -- ---- a text by its lines, with the bytes of a partial one
 

@@ -2,6 +2,7 @@
 -- does to a lookup.
 -- To cite: `Lowest` with `lookup_at` and `lookup_made`, `lookup_used`, `lookup_lent`, `lookup_nothing`, `lookup_none`, `lookup_since_lem`, `lookup_put_kept`,
 -- `lookup_put_next`, `Grown` with `grown_same`, `grown_put_kept` and `grown_put_next`, `mandate_at_number`, `collection_at_number`. Assumes nothing.
+use Rattle.std.proofs.Common.{None, Option, Some, ℕ}
 use mathlib.Core.Path.{◌≡◌, refl, sym, ◌∙◌, ap}
 use mathlib.Core.Bool.{Bool, false, cond, ◌||◌}
 use mathlib.Core.List.{List, [], ◌∷◌}
@@ -17,8 +18,6 @@ use Rattle.common.specs.Tests.{any_of}
 use Rattle.common.specs.Walk.{first_from}
 use Rattle.common.proofs.Tests.{true_or_false, any_of_at}
 use Rattle.common.proofs.Walk.{all_left, first_from_miss, first_from_cases, first_from_more, first_from_same, first_from_through}
-use Rattle.tables.specs.declared.Found.{Found}
-use Rattle.tables.specs.declared.Found.TheVariants.{At, Nothing}
 use Rattle.tables.specs.Limits.{stride}
 use Rattle.tables.specs.Records.{mandate_from, collection_from}
 use Rattle.tables.specs.Rows.{rows, put_row, mandate_at, collection_at}
@@ -64,11 +63,11 @@ pub record Lowest (cells : List ℕ) (used number row : ℕ) : Type 0 where
 
 module _ (cells : List ℕ) (used number : ℕ) where
   pub lookup_cases :
-      (P : Found → Type 0) → ((row : ℕ) → Lowest cells used number row → P (At row))
-      → (((j : ℕ) → j < existing cells used → number_at cells j ≢ number) → P Nothing) → P (lookup cells used number)
+      (P : Option ℕ → Type 0) → ((row : ℕ) → Lowest cells used number row → P (Some row))
+      → (((j : ℕ) → j < existing cells used → number_at cells j ≢ number) → P None) → P (lookup cells used number)
   unfolding lookup
   lookup_cases P found none =
-      first_from_cases (number_is cells number) At Nothing P (existing cells used)
+      first_from_cases (number_is cells number) Some None P (existing cells used)
       (λ k h e below.
       found k
       (record {
@@ -79,34 +78,34 @@ module _ (cells : List ℕ) (used number : ℕ) where
       (λ below. none (λ j l. eqb-false (number_at cells j) number (below j l)))
 
   -- the lookup is the walk over the used rows that there are
-  pub lookup_walk : (n : ℕ) → n ≡ existing cells used → first_from (number_is cells number) At Nothing 0 n ≡ lookup cells used number
+  pub lookup_walk : (n : ℕ) → n ≡ existing cells used → first_from (number_is cells number) Some None 0 n ≡ lookup cells used number
   unfolding lookup
   lookup_walk n e = rw e
 
-  pub lookup_at : (row : ℕ) → lookup cells used number ≡ At row → Lowest cells used number row
+  pub lookup_at : (row : ℕ) → lookup cells used number ≡ Some row → Lowest cells used number row
   lookup_at row =
-      lookup_cases (λ (f : Found). f ≡ At row → Lowest cells used number row)
+      lookup_cases (λ (f : Option ℕ). f ≡ Some row → Lowest cells used number row)
       (λ k low e. let s : k ≡ row = cc in rw (← s) low)
       (λ none e. let z : ◌≡◌ {A = ℕ} 0 1 = cc in absurd (omega arith))
 
   -- a row that is found is a used one, and lent
-  pub lookup_used : (row : ℕ) → lookup cells used number ≡ At row → row < used
+  pub lookup_used : (row : ℕ) → lookup cells used number ≡ Some row → row < used
   lookup_used row e = omega (arith, (lookup_at row e).existing_row, existing_used cells used)
 
-  pub lookup_lent : (row : ℕ) → lookup cells used number ≡ At row → row < rows cells
+  pub lookup_lent : (row : ℕ) → lookup cells used number ≡ Some row → row < rows cells
   lookup_lent row e = omega (arith, (lookup_at row e).existing_row, existing_rows cells used)
 
-  pub lookup_nothing : lookup cells used number ≡ Nothing → (j : ℕ) → j < existing cells used → number_at cells j ≢ number
+  pub lookup_nothing : lookup cells used number ≡ None → (j : ℕ) → j < existing cells used → number_at cells j ≢ number
   lookup_nothing =
       lookup_cases
-      (λ (f : Found). f ≡ Nothing → (j : ℕ) → j < existing cells used → number_at cells j ≢ number)
+      (λ (f : Option ℕ). f ≡ None → (j : ℕ) → j < existing cells used → number_at cells j ≢ number)
       (λ k low e. let z : ◌≡◌ {A = ℕ} 0 1 = cc in absurd (omega arith))
       (λ none e. none)
 
-  pub lookup_made : (row : ℕ) → Lowest cells used number row → lookup cells used number ≡ At row
+  pub lookup_made : (row : ℕ) → Lowest cells used number row → lookup cells used number ≡ Some row
   lookup_made row r =
-      lookup_cases (λ (f : Found). f ≡ At row)
-      (λ k low. ap At (one_row k low))
+      lookup_cases (λ (f : Option ℕ). f ≡ Some row)
+      (λ k low. ap Some (one_row k low))
       (λ none. absurd (none row r.existing_row r.number_row))
     where
       one_row : (k : ℕ) → Lowest cells used number k → k ≡ row
@@ -120,10 +119,10 @@ module _ (cells : List ℕ) (used number : ℕ) where
           (true_or_false (ltb row k)))
           (true_or_false (ltb k row))
 
-  pub lookup_none : ((j : ℕ) → j < existing cells used → number_at cells j ≢ number) → lookup cells used number ≡ Nothing
+  pub lookup_none : ((j : ℕ) → j < existing cells used → number_at cells j ≢ number) → lookup cells used number ≡ None
   lookup_none none =
       lookup_cases
-      (λ (f : Found). f ≡ Nothing)
+      (λ (f : Option ℕ). f ≡ None)
       (λ k low. absurd (none k low.existing_row low.number_row))
       (λ n. refl)
 
@@ -162,12 +161,12 @@ module _ (cells : List ℕ) (number : ℕ) where
   -- rows in a line without the number: the walk goes on behind them
   pub walk_past :
       (i n count : ℕ) → i + count ≤ n → ((k : ℕ) → k < count → number_is cells number (i + k) ≡ false)
-      → first_from (number_is cells number) At Nothing i (n - i) ≡ first_from (number_is cells number) At Nothing (i + count) (n - (i + count))
+      → first_from (number_is cells number) Some None i (n - i) ≡ first_from (number_is cells number) Some None (i + count) (n - (i + count))
   walk_past i n zero h f = rw (add-zero i)
   walk_past i n (suc count) h f =
       let e : i + 1 + count ≡ i + suc count = omega arith in
       let next : (k : ℕ) → i + 1 + k ≡ i + suc k = λ k. omega arith in
-      first_from_miss (number_is cells number) At Nothing i n (omega arith) (rw (add-zero i) at (f 0 (omega arith)))
+      first_from_miss (number_is cells number) Some None i n (omega arith) (rw (add-zero i) at (f 0 (omega arith)))
       ∙ rw e at (walk_past (i + 1) n count (omega arith) (λ k l. rw (next k) (f (suc k) (omega arith))))
 
   -- four rows and four more, each four by a test of their own
@@ -175,7 +174,7 @@ module _ (cells : List ℕ) (number : ℕ) where
       (a b : Bool) (i n : ℕ) → i + 8 ≤ n → a || b ≡ false
       → (a ≡ false → (k : ℕ) → k < 4 → number_is cells number (i + k) ≡ false)
       → (b ≡ false → (k : ℕ) → k < 4 → number_is cells number (i + 4 + k) ≡ false)
-      → first_from (number_is cells number) At Nothing i (n - i) ≡ first_from (number_is cells number) At Nothing (i + 8) (n - (i + 8))
+      → first_from (number_is cells number) Some None i (n - i) ≡ first_from (number_is cells number) Some None (i + 8) (n - (i + 8))
   walk_past_eight a b i n h none f g =
       let e : i + 4 + 4 ≡ i + 8 = omega arith in
       walk_past i n 4 (omega arith) (f (any_of_at (a ∷ b ∷ []) 0 none))
@@ -185,7 +184,7 @@ module _ (cells : List ℕ) (number : ℕ) where
 
 module _ (cells : List ℕ) (used number : ℕ) where
   -- the walk from a row on, over the used rows that there are
-  pub since_walk : (since n : ℕ) → n ≡ existing cells used → first_from (number_is cells number) At Nothing since (n - since) ≡ lookup_since cells used number since
+  pub since_walk : (since n : ℕ) → n ≡ existing cells used → first_from (number_is cells number) Some None since (n - since) ≡ lookup_since cells used number since
   unfolding lookup_since
   since_walk since n e = rw e
 
@@ -225,9 +224,9 @@ grown_same cells used = record { there = omega arith; same = λ row h. refl }
 -- ---- lookup after a row is written
 
 -- the first answer, or else the second
-abbrev pub or_else : Found → Found → Found
-or_else (At row) other = At row
-or_else Nothing other = other
+abbrev pub or_else : Option ℕ → Option ℕ → Option ℕ
+or_else (Some row) other = Some row
+or_else None other = other
 
 module _ (cells : List ℕ) (row : ℕ) (fields : List ℕ) (e : length fields ≡ stride) where
   first_cell : (r : ℕ) → r * stride + 0 ≡ r * stride
@@ -255,7 +254,7 @@ module _ (cells : List ℕ) (row : ℕ) (fields : List ℕ) (e : length fields �
   unfolding lookup
   lookup_put_kept h s used number =
       rw (rows_put stride cells row fields)
-      (first_from_same (number_is (put_row stride cells row fields) number) (number_is cells number) At Nothing (existing cells used)
+      (first_from_same (number_is (put_row stride cells row fields) number) (number_is cells number) Some None (existing cells used)
       (λ k l. ap (λ (n : ℕ). eqb n number) (number_at_put_kept h s k)))
 
   -- every row stays
@@ -274,17 +273,17 @@ module _ (cells : List ℕ) (row : ℕ) (fields : List ℕ) (e : length fields �
   -- a row at the next place: the lookup goes on there
   pub lookup_put_next :
       row < rows cells → (number : ℕ)
-      → lookup (put_row stride cells row fields) (row + 1) number ≡ or_else (lookup cells row number) (cond (eqb (get_or fields 0 0) number) (At row) Nothing)
+      → lookup (put_row stride cells row fields) (row + 1) number ≡ or_else (lookup cells row number) (cond (eqb (get_or fields 0 0) number) (Some row) None)
   unfolding lookup
   lookup_put_next h number =
       let room : row + 1 ≤ rows (put_row stride cells row fields) = rw (rows_put stride cells row fields) (omega arith) in
-      let last : Found = cond (eqb (get_or fields 0 0) number) (At row) Nothing in
+      let last : Option ℕ = cond (eqb (get_or fields 0 0) number) (Some row) None in
       let t : ℕ → Bool = number_is (put_row stride cells row fields) number in
       let zero_row : 0 + row ≡ row = omega arith in
-      ap (λ (n : ℕ). first_from t At Nothing 0 n) (existing_fit (put_row stride cells row fields) (row + 1) room ∙ add-one row)
-      ∙ first_from_more t At Nothing 0 row
+      ap (λ (n : ℕ). first_from t Some None 0 n) (existing_fit (put_row stride cells row fields) (row + 1) room ∙ add-one row)
+      ∙ first_from_more t Some None 0 row
       ∙ rw (zero_row, number_at_put_same h)
-      (first_from_same t (number_is cells number) At last row
+      (first_from_same t (number_is cells number) Some last row
       (λ k l. ap (λ (n : ℕ). eqb n number) (number_at_put_other k (λ s. omega arith))))
-      ∙ sym (first_from_through (λ (f : Found). or_else f last) (number_is cells number) At Nothing 0 row)
-      ∙ ap (λ (n : ℕ). or_else (first_from (number_is cells number) At Nothing 0 n) last) (sym (existing_fit cells row (omega arith)))
+      ∙ sym (first_from_through (λ (f : Option ℕ). or_else f last) (number_is cells number) Some None 0 row)
+      ∙ ap (λ (n : ℕ). or_else (first_from (number_is cells number) Some None 0 n) last) (sym (existing_fit cells row (omega arith)))

@@ -1,5 +1,6 @@
 -- Laws of specs/Text, for the functions of src/text.rt in their order. To cite: `line_refused`, `line_taken`, `line_event`; `output_none`, `output_line`;
 -- `AnsweredTo` with `answered_start`, `answered_line`, `answered_end`. Assumes nothing.
+use Rattle.std.proofs.Common.{Err, Ok, Result}
 use mathlib.Core.Path.{◌≡◌, refl, sym, ap, ◌∙◌}
 use mathlib.Core.Bool.{Bool, true, false, cond}
 use mathlib.Core.Logic.{◌≢◌}
@@ -16,18 +17,12 @@ use Rattle.common.proofs.Tests.{and_halves}
 use Rattle.refusals.specs.declared.Refusal.{Refusal}
 use Rattle.refusals.proofs.Laws.Refusals.{number_of_most}
 use Rattle.events.specs.declared.Event.{Event}
-use Rattle.events.specs.declared.limits.Checked.{Checked}
-use Rattle.events.specs.declared.limits.Checked.TheVariants as events
-use Rattle.lines.specs.declared.line.LineAnswer.{LineAnswer}
-use Rattle.lines.specs.declared.line.LineAnswer.TheVariants as lines
 use Rattle.events.specs.Limits.{checked}
 use Rattle.digits.specs.Field.{pasted}
 use Rattle.lines.specs.Line.{event_of, line_end, read_line, checked_line, cells_by}
 use Rattle.lines.proofs.Laws.Promises.{cells_taken}
 use Rattle.tables.specs.declared.Header.{Header}
 use Rattle.tables.specs.Ledger.{Ledger}
-use Rattle.model.specs.declared.Answer.{Answer}
-use Rattle.model.specs.declared.Answer.TheVariants.{Accepted, Refused}
 use Rattle.model.specs.Step.{answer_number}
 use Rattle.index.proofs.Laws.Following.{indexed_kept}
 use Rattle.model.proofs.Laws.Batch.{after_safe}
@@ -47,22 +42,22 @@ use Rattle.text.specs.Text.{Prepared, WhenPrepared, LineTaken, LineAnswered, Lin
 -- ---- a line
 
 -- the event of a line, by way of the cells that it was read into
-pub line_event : (line cells cells' : List ℕ) (a : Checked) (e : Event)
+pub line_event : (line cells cells' : List ℕ) (a : Result Unit Refusal) (e : Event)
     → a ≡ checked_line (read_line line)
     → cells' ≡ cells_by (read_line line) cells
-    → a ≡ events.Within
+    → a ≡ (Ok tt)
     → e ≡ event_of cells'
-    → (read_line line ≡ lines.Taken e) × (checked e ≡ events.Within)
+    → (read_line line ≡ Ok e) × (checked e ≡ (Ok tt))
 line_event line cells cells' a e p q w g =
     let t = cells_taken line cells (sym p ∙ w) in
     let i : e ≡ t.event = g ∙ ap event_of (q ∙ t.is_cells) in
-    (t.is_read ∙ ap lines.Taken (sym i), ap checked i ∙ t.is_within)
+    (t.is_read ∙ ap Ok (sym i), ap checked i ∙ t.is_within)
 
 module _ (l : Ledger) (line : List ℕ) where
-  pub line_refused : (h : Header) (x : Refusal) → read_line line ≡ lines.Refused x → LineTaken l line (record { answer = Refused x; header = h }) l
+  pub line_refused : (h : Header) (x : Refusal) → read_line line ≡ Err x → LineTaken l line (record { answer = Err x; header = h }) l
   line_refused h x e = record { answer_is = rw e; after_is = rw e }
 
-  pub line_taken : (e : Event) (r : Outcome) (l' : Ledger) → read_line line ≡ lines.Taken e → Taken l e r l' → LineTaken l line r l'
+  pub line_taken : (e : Event) (r : Outcome) (l' : Ledger) → read_line line ≡ Ok e → Taken l e r l' → LineTaken l line r l'
   line_taken e r l' q t = record { answer_is = rw q t.answer_is; after_is = rw q t.after_is }
 
 -- ---- a line that has ended
@@ -78,9 +73,9 @@ output_none l p line out h =
     record { run = rw f; bytes = rw f (pasted_none p.written out); written = rw f (sym (add-zero p.written)) }
 
 -- the number of an answer has at most three digits
-answer_narrow : (a : Answer) → answer_number a ≤ last_answer
-answer_narrow Accepted = omega arith
-answer_narrow (Refused r) = omega (arith, number_of_most r)
+answer_narrow : (a : Result Unit Refusal) → answer_number a ≤ last_answer
+answer_narrow (Ok tt) = omega arith
+answer_narrow (Err r) = omega (arith, number_of_most r)
 
 module _ (l : Ledger) (p : Progress) (line out : List ℕ) (h : p.lines < last_number) (room : p.written + answer_length ≤ length out) where
   pub output_line : (r : Outcome) (l' : Ledger) (number : ℕ) (out' : List ℕ)
@@ -102,14 +97,14 @@ module _ (l : Ledger) (p : Progress) (line out : List ℕ) (h : p.lines < last_n
 
 -- what was prepared stays so: a line keeps safe memory safe, and the rows that the indexes cover
 module _ (mandateIndex collectionIndex : List ℕ) where
-  line_prepared : (l : Ledger) (a : LineAnswer) → Prepared mandateIndex collectionIndex l → Prepared mandateIndex collectionIndex (after_line l a)
-  line_prepared l (lines.Taken e) p =
+  line_prepared : (l : Ledger) (a : Result Event Refusal) → Prepared mandateIndex collectionIndex l → Prepared mandateIndex collectionIndex (after_line l a)
+  line_prepared l (Ok e) p =
       record {
         safe = after_safe l e p.safe;
         mandates = indexed_kept mandateIndex l.mandates _ l.mandates_used _ p.mandates (mandates_grown l e);
         collections = indexed_kept collectionIndex l.collections _ l.collections_used _ p.collections (collections_grown l e);
       }
-  line_prepared l (lines.Refused r) p = p
+  line_prepared l (Err r) p = p
 
   ended_prepared : (l : Ledger) (n : ℕ) (line : List ℕ) → Prepared mandateIndex collectionIndex l → Prepared mandateIndex collectionIndex (ended (run_at l n []) line).book
   ended_prepared l n line p = by_more (ltb n last_number)
@@ -299,7 +294,7 @@ module _ (l : Ledger) (lines filled : ℕ) (text out : List ℕ) where
       → LinesAnswered (run_at l lines []) (take filled text) out d l' out'
       → partial ≡ length (clipped (drop d.at (take filled text)))
       → text' ≡ pasted 0 (clipped (drop d.at (take filled text))) text
-      → PieceTaken l lines filled text out (record { answer = Accepted; header = h; lines = d.lines; partial = partial; written = d.written }) l' text' out'
+      → PieceTaken l lines filled text out (record { answer = (Ok tt); header = h; lines = d.lines; partial = partial; written = d.written }) l' text' out'
   piece_taken d h partial l' text' out' f t b w =
       record {
         advanced =

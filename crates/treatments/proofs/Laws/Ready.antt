@@ -1,5 +1,6 @@
 -- Events 6 to 10 on a fit ledger: what fitness gives, and that the call is then the model's answer and effect.
 -- To cite: `treat_ruled`, `Asked`, `in_time_days`. Assumes nothing.
+use Rattle.std.proofs.Common.{Err, None, Ok, Option, Result, Some, ℕ}
 use mathlib.Core.Path.{◌≡◌, refl, sym, ◌∙◌, ap}
 use mathlib.Core.Bool.{Bool, true, false, not}
 use mathlib.Core.List.{List}
@@ -13,8 +14,6 @@ use Rattle.common.proofs.Tests.{never, not_true}
 use Rattle.calendar.specs.Gregorian.{in_range, is_date}
 use Rattle.calendar.specs.DayNumber.{day_number}
 use Rattle.calendar.specs.Periods.{days_between, is_after}
-use Rattle.calendar.specs.declared.DateAnswer.TheVariants.{Date}
-use Rattle.calendar.specs.declared.DaysAnswer.TheVariants.{Days}
 use Rattle.calendar.proofs.Laws.Gregorian.{range_facts}
 use Rattle.calendar.proofs.Laws.DayNumber.{day_number_mono_le}
 use Rattle.calendar.proofs.Laws.Answers.{day_of_is}
@@ -24,8 +23,6 @@ use Rattle.positions.specs.Positions.{position_limit, position}
 use Rattle.positions.specs.Postings.{settlement, reversed, refunded}
 use Rattle.positions.specs.Compensation.{compensation, compensation_of, rate_limit, InLimits}
 use Rattle.positions.specs.declared.Postings.{Postings}
-use Rattle.positions.specs.declared.PostingsAnswer.TheVariants.{Amounts}
-use Rattle.positions.specs.declared.CompensationAnswer.TheVariants.{Cents}
 use Rattle.positions.proofs.Laws.Compensation.{compensation_of_is}
 use Rattle.positions.proofs.Laws.Integers.{size_within}
 use Rattle.positions.proofs.Laws.Limits.{refund_days, compensation_bound}
@@ -35,8 +32,6 @@ use Rattle.positions.proofs.Laws.Answers.{settlement_of_is, reversed_of_is, refu
 use Rattle.tables.specs.declared.Collection.{Collection}
 use Rattle.tables.specs.declared.State.{State}
 use Rattle.tables.specs.declared.State.TheVariants.{Presented, Rejected, Settled, Undone}
-use Rattle.tables.specs.declared.Found.{Found}
-use Rattle.tables.specs.declared.Found.TheVariants.{At, Nothing}
 use Rattle.tables.specs.Limits.{creditor_count, debtor_count, bank_count, amount_limit}
 use Rattle.tables.specs.Ledger.{Ledger}
 use Rattle.tables.specs.Lookup.{existing, lookup}
@@ -45,8 +40,6 @@ use Rattle.tables.specs.Records.{state_tag, state_day}
 use Rattle.tables.proofs.Laws.Lookup.{lookup_at, existing_used}
 use Rattle.fitness.specs.Fitness.{day_fit, positions_fit, fit}
 use Rattle.fitness.proofs.Laws.Fitness.{position_facts, compensation_facts, day_facts, CollectionFit, creditors_fit_at, positions_fit_at, fit_facts, fit_collection}
-use Rattle.model.specs.declared.Answer.{Answer}
-use Rattle.model.specs.declared.Answer.TheVariants.{Accepted, Refused}
 use Rattle.model.specs.declared.Action.TheVariants.{Treat}
 use Rattle.model.specs.declared.Way.{Way}
 use Rattle.model.specs.declared.Treatment.{Treatment}
@@ -61,6 +54,7 @@ use Rattle.checking.specs.Calls.{used_row, found_row, Done}
 use Rattle.checking.proofs.Laws.Calls.{done_same, judged_passes}
 use Rattle.treatments.specs.declared.verdicts.Verdict.{Verdict}
 use Rattle.treatments.specs.Treatments.{treat_checks, treat_judged, refund_for, refund_after, undone_of, go_verdict, by_answer, held, postable, answer_for, effect_for, Treated}
+use Rattle.refusals.specs.declared.Refusal.{Refusal}
 
 -- ---- what an undoing posts
 
@@ -78,17 +72,17 @@ rate_of (ByRefund rate code) = rate
 rate_of ByReversal = 0
 
 module _ {amount rate settled date : ℕ} (r : Refundable amount rate settled date) where
-  days_are : days_between settled date ≡ Days (record { 0 = days_since settled date })
+  days_are : days_between settled date ≡ Some (record { 0 = days_since settled date })
   days_are =
       days_between_days settled date (day_number settled) (day_number date)
       (day_of_is settled r.from)
       (day_of_is date r.to)
       (day_number_mono_le settled date r.from r.to r.order)
 
-  cents_are : compensation_of amount rate (days_since settled date) ≡ Cents (compensation amount rate (days_since settled date))
+  cents_are : compensation_of amount rate (days_since settled date) ≡ Some (compensation amount rate (days_since settled date))
   cents_are = compensation_of_is amount rate (days_since settled date) r.limits
 
-undone_is : (way : Way) (amount settled date : ℕ) → Refundable amount (rate_of way) settled date → undone_of way amount settled date ≡ Amounts (undone way amount settled date)
+undone_is : (way : Way) (amount settled date : ℕ) → Refundable amount (rate_of way) settled date → undone_of way amount settled date ≡ Some (undone way amount settled date)
 undone_is ByReturn amount settled date r = reversed_of_is amount r.limits.high
 undone_is (ByRefund rate code) amount settled date r =
     ap (refund_after amount rate) (days_are r)
@@ -116,7 +110,7 @@ pub in_time_days :
 unfolding last_day
 in_time_days way day date r h e =
     let a = range_period_end (period_of core way) day r (omega (arith, longest_in_time way)) in
-    let f : not (is_after date (Date a.date)) ≡ true = rw a.is at e in
+    let f : not (is_after date (Some a.date)) ≡ true = rw a.is at e in
     let l : date ≤ a.date = ltb-false a.date date (not_true f) in
     omega (arith, longest_in_time way, a.near, day_number_mono_le date a.date h a.is_date_lem l)
 
@@ -262,20 +256,20 @@ pub record Asked (t : Treatment) (date : ℕ) : Type 0 where
   pub in_range_lem : in_range date ≡ true
   pub rated : (way : Way) → t ≡ Undo way → rate_of way ≤ rate_limit
 
-answer_by : (a : Answer) (v : Verdict) (l : Ledger) → (a ≡ Accepted → answer_for v l ≡ Accepted) → answer_for (by_answer a v) l ≡ a
-answer_by Accepted v l h = h refl
-answer_by (Refused r) v l h = refl
+answer_by : (a : Result Unit Refusal) (v : Verdict) (l : Ledger) → (a ≡ (Ok tt) → answer_for v l ≡ (Ok tt)) → answer_for (by_answer a v) l ≡ a
+answer_by (Ok tt) v l h = h refl
+answer_by (Err r) v l h = refl
 
-effect_by : (a : Answer) (v : Verdict) (row date : ℕ) (l : Ledger) → a ≡ Accepted → effect_for (by_answer a v) row date l ≡ effect_for v row date l
+effect_by : (a : Result Unit Refusal) (v : Verdict) (row date : ℕ) (l : Ledger) → a ≡ (Ok tt) → effect_for (by_answer a v) row date l ≡ effect_for v row date l
 effect_by a v row date l e = rw e
 
 module _ (l : Ledger) (date number : ℕ) (t : Treatment) where
   treat_answer :
-      (f : Found) → lookup l.collections l.collections_used number ≡ f
+      (f : Option ℕ) → lookup l.collections l.collections_used number ≡ f
       → treat_judged l.latest date t (used_row l.collections l.collections_used f) (collection_at l.collections (found_row f)) ≡ ruled l date (Treat number t)
   unfolding ruled collection_of
-  treat_answer Nothing e = rw e
-  treat_answer (At row) e =
+  treat_answer None e = rw e
+  treat_answer (Some row) e =
       rw (
         e,
         lt-ltb row (existing l.collections l.collections_used) (lookup_at l.collections l.collections_used number row e).existing_row,
@@ -283,10 +277,10 @@ module _ (l : Ledger) (date number : ℕ) (t : Treatment) where
 
 -- what an accepted treatment is, of the collection k of a fit ledger
 record Goes (l : Ledger) (date row : ℕ) (t : Treatment) (k : Collection) (changed : Ledger) : Type 0 where
-  accepted : answer_for (go_verdict t date k) l ≡ Accepted
+  accepted : answer_for (go_verdict t date k) l ≡ (Ok tt)
   makes : effect_for (go_verdict t date k) row date l ≡ changed
 
-module _ (l : Ledger) (date number row : ℕ) (e : lookup l.collections l.collections_used number ≡ At row) where
+module _ (l : Ledger) (date number row : ℕ) (e : lookup l.collections l.collections_used number ≡ Some row) where
   k : Collection
   k = collection_at l.collections row
 
@@ -323,18 +317,18 @@ module _ (l : Ledger) (date number row : ℕ) (e : lookup l.collections l.collec
 
 module _ (l : Ledger) (date number : ℕ) (t : Treatment) (f : fit l ≡ true) (a : Asked t date) where
   by_found :
-      (found : Found) → lookup l.collections l.collections_used number ≡ found
-      → treat_judged l.latest date t (used_row l.collections l.collections_used found) (collection_at l.collections (found_row found)) ≡ Accepted
+      (found : Option ℕ) → lookup l.collections l.collections_used number ≡ found
+      → treat_judged l.latest date t (used_row l.collections l.collections_used found) (collection_at l.collections (found_row found)) ≡ (Ok tt)
       → Goes l date (found_row found) t (collection_at l.collections (found_row found)) (effect l date (Treat number t))
   unfolding k
-  by_found Nothing e q =
+  by_found None e q =
       absurd (never (judged_passes (treat_checks l.latest date t false (collection_at l.collections 0)) refl q 2) refl)
-  by_found (At row) e q =
-      let passed = judged_passes (treat_checks l.latest date t (used_row l.collections l.collections_used (At row)) (collection_at l.collections row)) refl q in
+  by_found (Some row) e q =
+      let passed = judged_passes (treat_checks l.latest date t (used_row l.collections l.collections_used (Some row)) (collection_at l.collections row)) refl q in
       goes l date number row e f (leb-true l.latest date (passed 0)) t a (passed 3) (passed 5)
 
   pub treat_ruled :
-      (r : Outcome) (l' : Ledger) (found : Found) → found ≡ lookup l.collections l.collections_used number
+      (r : Outcome) (l' : Ledger) (found : Option ℕ) → found ≡ lookup l.collections l.collections_used number
       → Treated found l date t r l' → Done (ruled l date (Treat number t)) l (effect l date (Treat number t)) r l'
   treat_ruled r l' found e d =
       let k = collection_at l.collections (found_row found) in

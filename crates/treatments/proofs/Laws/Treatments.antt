@@ -1,5 +1,6 @@
 -- Laws of specs/Treatments: what is written for a verdict. To cite: `sum_fits`, `sum_back`, `amount_back`, `paid_within`, `written`, `treat_refused`,
 -- `treat_marked`, `treat_paid`. Assumes nothing.
+use Rattle.std.proofs.Common.{Err, Ok, Option, ℕ}
 use mathlib.Core.Path.{◌≡◌, refl}
 use mathlib.Core.Bool.{Bool, true}
 use mathlib.Core.List.{List, [], ◌∷◌}
@@ -18,10 +19,8 @@ use Rattle.positions.proofs.Laws.Positions.{has_entry_entry, entry_posted, size_
 use Rattle.positions.proofs.Laws.Answers.{post_fits}
 use Rattle.tables.specs.declared.Collection.{Collection}
 use Rattle.tables.specs.declared.Header.{Header}
-use Rattle.tables.specs.declared.Found.{Found}
 use Rattle.tables.specs.Ledger.{Ledger, ledger}
 use Rattle.tables.specs.Rows.{put_collection}
-use Rattle.model.specs.declared.Answer.TheVariants.{Accepted, Refused}
 use Rattle.model.specs.declared.Treatment.{Treatment}
 use Rattle.model.specs.Effects.{dated, keep_collection}
 use Rattle.checking.specs.declared.Outcome.{Outcome}
@@ -127,13 +126,13 @@ written h date row k p cs cp dp bp s r cs' cp' dp' mid bp' x y u v w ex ey eu ev
 
 -- ---- the call, by its verdict
 
-module _ (found : Found) (l : Ledger) (date : ℕ) (t : Treatment) where
-  pub treat_refused : (h : Header) (r : Refusal) → verdict_at found l date t ≡ Refuse r → Treated found l date t (record { answer = Refused r; header = h }) l
+module _ (found : Option ℕ) (l : Ledger) (date : ℕ) (t : Treatment) where
+  pub treat_refused : (h : Header) (r : Refusal) → verdict_at found l date t ≡ Refuse r → Treated found l date t (record { answer = Err r; header = h }) l
   treat_refused h r e = rw e (record { answer_is = refl; after_is = refl })
 
   pub treat_marked :
       (h : Header) (k : Collection) (l' : Ledger) → verdict_at found l date t ≡ Mark k → l' ≡ keep_collection (dated l date) (found_row found) k
-      → Treated found l date t (record { answer = Accepted; header = h }) l'
+      → Treated found l date t (record { answer = (Ok tt); header = h }) l'
   treat_marked h k l' e q = rw e (record { answer_is = refl; after_is = q })
 
   pub treat_paid :

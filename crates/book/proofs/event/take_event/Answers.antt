@@ -7,15 +7,15 @@ use Rattle.book.proofs.event.take_event.Goals as goal
 pub returns-then-not-is_fit : goal.returns-then-not-is_fit
 returns-then-not-is_fit c = taken_unfit _ _ _ (sym c.is_fit.ensures ∙ c.if-not-is_fit.true)
 
-pub returns-in-Refused : goal.returns-in-Refused
-returns-in-Refused c = taken_refused _ _ _ _ (sym c.is_fit.ensures ∙ c.if-not-is_fit.false) (sym c.check.ensures.answer ∙ c.in-Refused.is)
+pub returns-in-Err : goal.returns-in-Err
+returns-in-Err c = taken_refused _ _ _ _ (sym c.is_fit.ensures ∙ c.if-not-is_fit.false) (sym c.check.ensures.answer ∙ c.in-Err.is)
 
-pub returns-in-Within : goal.returns-in-Within
-returns-in-Within c =
+pub returns-in-Ok : goal.returns-in-Ok
+returns-in-Ok c =
     let a = c.args in
     let l = ledger a.header a.mandates.now a.collections.now a.creditors.now a.creditor_positions.now a.debtor_positions.now a.bank_positions.now in
     acted_taken l a.e _ _ _ _ (sym c.is_fit.ensures ∙ c.if-not-is_fit.false)
-    (sym c.check.ensures.answer ∙ c.in-Within.is)
+    (sym c.check.ensures.answer ∙ c.in-Ok.is)
     (found_for a.e l _ _ 0 0
     (lookup_since_first a.mandates.now a.header.mandates a.e.mandate)
     (lookup_since_first a.collections.now a.header.collections a.e.a)

@@ -1,4 +1,4 @@
-use Rattle.calendar.specs.declared.DayAnswer.TheVariants.{Day}
+use Rattle.std.proofs.Common.{Some}
 use Rattle.calendar.proofs.Laws.Periods.{days_between_days, days_between_later, days_between_no_start, days_between_no_end}
 use Rattle.calendar.specs.DayNumber.{day_of}
 use mathlib.Core.Path.{◌≡◌, sym, ◌∙◌}
@@ -12,12 +12,12 @@ returns-in_default-day_number c = sym (days_between_no_end _ _ (sym c.day_number
 
 pub returns-then-from-to : goal.returns-then-from-to
 returns-then-from-to c =
-    let start : day_of c.args.x ≡ Day c.in-Day.from = sym c.day_number.ensures ∙ c.in-Day.is in
-    let end : day_of c.args.y ≡ Day c.in-Day-day_number.to = sym c.day_number-2.ensures ∙ c.in-Day-day_number.is in
+    let start : day_of c.args.x ≡ Some c.in-Some.from = sym c.day_number.ensures ∙ c.in-Some.is in
+    let end : day_of c.args.y ≡ Some c.in-Some-day_number.to = sym c.day_number-2.ensures ∙ c.in-Some-day_number.is in
     sym (days_between_days _ _ _ _ start end c.if-from-to.true)
 
 pub returns : goal.returns
 returns c =
-    let start : day_of c.args.x ≡ Day c.in-Day.from = sym c.day_number.ensures ∙ c.in-Day.is in
-    let end : day_of c.args.y ≡ Day c.in-Day-day_number.to = sym c.day_number-2.ensures ∙ c.in-Day-day_number.is in
+    let start : day_of c.args.x ≡ Some c.in-Some.from = sym c.day_number.ensures ∙ c.in-Some.is in
+    let end : day_of c.args.y ≡ Some c.in-Some-day_number.to = sym c.day_number-2.ensures ∙ c.in-Some-day_number.is in
     sym (days_between_later _ _ _ _ start end c.if-from-to.false)

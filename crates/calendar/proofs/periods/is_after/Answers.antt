@@ -1,4 +1,4 @@
 use Rattle.calendar.proofs.periods.is_after.Goals as goal
 
-pub returns-in-Date : goal.returns-in-Date
-returns-in-Date c = rw c.in-Date.is
+pub returns-in-Some : goal.returns-in-Some
+returns-in-Some c = rw c.in-Some.is

@@ -1,3 +1,4 @@
+use Rattle.std.proofs.Common.{Some}
 use Rattle.calendar.proofs.Laws.Periods.{months_after_is, months_after_beyond, months_after_none, month_count_is}
 use Rattle.calendar.proofs.Laws.Gregorian.{Valid, date_valid, valid_day_le}
 use Rattle.calendar.specs.Periods.{month_count, day_of_month_count}
@@ -9,7 +10,6 @@ use mathlib.Core.Logic.{⊎_elim}
 use mathlib.Core.Bool.{true, false}
 use native.Mathlib.Omega.{arith}
 use lib.Dec.{ltb}
-use Rattle.calendar.specs.declared.DateAnswer.TheVariants.{Date}
 use mathlib.Core.Path.{◌≡◌, sym, ◌∙◌, ap}
 use Rattle.calendar.proofs.periods.months_after.Goals as goal
 
@@ -40,7 +40,7 @@ returns-then-t-lt-MONTHS c =
     (sym c.is_date.ensures ∙ p.0, ltb-true _ _ p.1) in
     let t = tests in
     let e = month_count_is c.args.n.0 c.args.x in
-    ap Date (c.day_of_month.ensures ∙ ap (λ (k : ℕ). day_of_month_count k (day_of_month c.args.x)) (sym e))
+    ap Some (c.day_of_month.ensures ∙ ap (λ (k : ℕ). day_of_month_count k (day_of_month c.args.x)) (sym e))
     ∙ sym (months_after_is _ _ t.0 (rw e c.if-t-lt-MONTHS.true))
 
 pub returns-else-t-lt-MONTHS : goal.returns-else-t-lt-MONTHS

@@ -31,7 +31,7 @@ pub loop-i-preserved : goal.loop-i-preserved
 loop-i-preserved c =
     let l = c.loop-i in
     let a = c.args in
-    let p = in_calendar_day _ _ (sym c.first_open.ensures ∙ c.in-Day.is) in
+    let p = in_calendar_day _ _ (sym c.first_open.ensures ∙ c.in-Some.is) in
     let e = open_after_more l.i a.d ∙ ap (λ (k : ℕ). first_open (k + 1)) l.invariant.2 in
     (omega arith, omega (arith, p.0, p.1), e ∙ sym p.1)
 

@@ -1,4 +1,4 @@
 use Rattle.calendar.proofs.target.date_of_day.Goals as goal
 
-pub returns-in-Day : goal.returns-in-Day
-returns-in-Day c = rw c.in-Day.is c.date_of.ensures
+pub returns-in-Some : goal.returns-in-Some
+returns-in-Some c = rw c.in-Some.is c.date_of.ensures

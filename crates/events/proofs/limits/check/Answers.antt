@@ -1,15 +1,16 @@
 -- `check` makes the checks of `limit_checks`, in their order.
 -- Assumes nothing.
+use Rattle.std.proofs.Common.{Result}
 use Rattle.events.proofs.Laws.Limits.{checked_kind, checked_date, checked_field, checked_within}
 use mathlib.Core.Path.{◌≡◌, sym, ap, ◌∙◌}
 use Rattle.events.specs.declared.Event.{Event}
-use Rattle.events.specs.declared.limits.Checked.{Checked}
 use Rattle.events.specs.Limits.{checked, checked_number, limit_number}
 use Rattle.events.proofs.Laws.Numbers.{limit_number_lem}
 use Rattle.events.proofs.limits.check.Goals as goal
+use Rattle.refusals.specs.declared.Refusal.{Refusal}
 
 -- an answer that is right has its number
-numbered : (e : Event) {r : Checked} → r ≡ checked e → (r ≡ checked e) × (checked_number r ≡ limit_number e)
+numbered : (e : Event) {r : (Result Unit Refusal)} → r ≡ checked e → (r ≡ checked e) × (checked_number r ≡ limit_number e)
 numbered e p = (p, ap checked_number p ∙ limit_number_lem e)
 
 pub returns-then-not-within : goal.returns-then-not-within

@@ -9,4 +9,4 @@ returns-in_default c = rw (← c.row_of.ensures, c.in_default.is)
 
 pub returns : goal.returns
 unfolding fields_fit
-returns c = rw (← c.row_of.ensures, c.in-Found.is) c.row_fits.ensures
+returns c = rw (← c.row_of.ensures, c.in-Some.is) c.row_fits.ensures

@@ -2,8 +2,8 @@
 use mathlib.Core.Path.{◌∙◌}
 use Rattle.foreign.proofs.texts.put_ending.Goals as goal
 
-pub returns-in-Accepted : goal.returns-in-Accepted
-returns-in-Accepted c = record { answer_is = rw c.in-Accepted.is; state_is = c.put_counts.ensures ∙ rw c.in-Accepted.is }
+pub returns-in-Ok : goal.returns-in-Ok
+returns-in-Ok c = record { answer_is = rw c.in-Ok.is; state_is = c.put_counts.ensures ∙ rw c.in-Ok.is }
 
-pub returns-in-Refused : goal.returns-in-Refused
-returns-in-Refused c = record { answer_is = c.number_of.ensures ∙ rw c.in-Refused.is; state_is = rw c.in-Refused.is }
+pub returns-in-Err : goal.returns-in-Err
+returns-in-Err c = record { answer_is = c.number_of.ensures ∙ rw c.in-Err.is; state_is = rw c.in-Err.is }

@@ -2,5 +2,5 @@
 use mathlib.Core.Path.{◌∙◌}
 use Rattle.foreign.proofs.texts.put_listing.Goals as goal
 
-pub returns-in-Accepted : goal.returns-in-Accepted
-returns-in-Accepted c = record { answer_is = rw c.in-Accepted.is; state_is = c.put_written.ensures ∙ rw c.in-Accepted.is }
+pub returns-in-Ok : goal.returns-in-Ok
+returns-in-Ok c = record { answer_is = rw c.in-Ok.is; state_is = c.put_written.ensures ∙ rw c.in-Ok.is }

@@ -2,18 +2,18 @@
 use mathlib.Core.Path.{◌∙◌}
 use Rattle.foreign.proofs.texts.put_piece.Goals as goal
 
-pub returns-in-Accepted : goal.returns-in-Accepted
-returns-in-Accepted c =
+pub returns-in-Ok : goal.returns-in-Ok
+returns-in-Ok c =
     record {
-      answer_is = rw c.in-Accepted.is;
-      state_is = c.put_taken.ensures.state ∙ rw c.in-Accepted.is;
-      cents_is = c.put_taken.ensures.cents ∙ rw c.in-Accepted.is;
+      answer_is = rw c.in-Ok.is;
+      state_is = c.put_taken.ensures.state ∙ rw c.in-Ok.is;
+      cents_is = c.put_taken.ensures.cents ∙ rw c.in-Ok.is;
     }
 
-pub returns-in-Refused : goal.returns-in-Refused
-returns-in-Refused c =
+pub returns-in-Err : goal.returns-in-Err
+returns-in-Err c =
     record {
-      answer_is = c.number_of.ensures ∙ rw c.in-Refused.is;
-      state_is = rw c.in-Refused.is;
-      cents_is = rw c.in-Refused.is;
+      answer_is = c.number_of.ensures ∙ rw c.in-Err.is;
+      state_is = rw c.in-Err.is;
+      cents_is = rw c.in-Err.is;
     }

@@ -1,8 +1,8 @@
 -- `later_fields` reads field by field, as `fields` does, behind the four that were read. Then it goes by the answer of `check`, and
 -- stores the values cell after cell. Assumes nothing.
+use Rattle.std.proofs.Common.{Err, Ok}
 use Rattle.lines.proofs.Laws.Line.{after, after_value, after_none, stored, cell_within, cells_stored, cells_answer}
 use Rattle.lines.specs.Line.{widths, event_of, read_fields, answer_of, taken}
-use Rattle.lines.specs.declared.line.LineAnswer.TheVariants as lines
 use Rattle.refusals.specs.declared.Refusal.TheVariants.{BadLine}
 use lib.ListN.{length, take, drop}
 use lib.Dec.{lit<}
@@ -23,12 +23,12 @@ returns-in_default c =
     ∙ after_value (take 3 given) (drop 4 widths) l 21 10 long refl _ p.3 in
     let s = c in
     record {
-      answer = (cells_answer s.args.cells.now _ (lines.Refused BadLine)
+      answer = (cells_answer s.args.cells.now _ (Err BadLine)
           (ap taken
           (before
           ∙ after_none given (drop 5 widths) s.args.line.now 31 10 s.requires.lengths.0 refl
           (sym c.field.ensures ∙ c.in_default.is)))).0;
-      cells = (cells_answer s.args.cells.now _ (lines.Refused BadLine)
+      cells = (cells_answer s.args.cells.now _ (Err BadLine)
           (ap taken
           (before
           ∙ after_none given (drop 5 widths) s.args.line.now 31 10 s.requires.lengths.0 refl
@@ -39,7 +39,7 @@ pub returns-in_default-field : goal.returns-in_default-field
 returns-in_default-field c =
     let line1 : List ℕ = c.args.line.now in
     let given : List ℕ = c.args.kind ∷ c.args.date ∷ c.args.mandate ∷ c.args.a ∷ [] in
-    let values1 : List ℕ = given ++ (c.in-Value.b ∷ []) in
+    let values1 : List ℕ = given ++ (c.in-Some.b ∷ []) in
     let before : read_fields widths 0 c.args.line.now ≡ after given (read_fields (drop 4 widths) 31 c.args.line.now) = let l = c.args.line.now in
     let long = c.requires.lengths.0 in
     let p = c.requires.read in
@@ -49,16 +49,16 @@ returns-in_default-field c =
     ∙ after_value (take 3 given) (drop 4 widths) l 21 10 long refl _ p.3 in
     let after1 : read_fields widths 0 line1 ≡ after values1 (read_fields (drop 5 widths) 41 line1) = before
     ∙ after_value given (drop 5 widths) line1 31 10 c.requires.lengths.0 refl
-    c.in-Value.b
-    (sym c.field.ensures ∙ c.in-Value.is) in
+    c.in-Some.b
+    (sym c.field.ensures ∙ c.in-Some.is) in
     let k = c in
     record {
-      answer = (cells_answer c.args.cells.now _ (lines.Refused BadLine)
+      answer = (cells_answer c.args.cells.now _ (Err BadLine)
           (ap taken
           (after1
           ∙ after_none values1 (drop 6 widths) line1 41 10 c.requires.lengths.0 refl
           (sym c.field-2.ensures ∙ c.in_default-field.is)))).0;
-      cells = (cells_answer c.args.cells.now _ (lines.Refused BadLine)
+      cells = (cells_answer c.args.cells.now _ (Err BadLine)
           (ap taken
           (after1
           ∙ after_none values1 (drop 6 widths) line1 41 10 c.requires.lengths.0 refl
@@ -69,8 +69,8 @@ pub returns-in_default-field-2 : goal.returns-in_default-field-2
 returns-in_default-field-2 c =
     let line2 : List ℕ = c.args.line.now in
     let given : List ℕ = c.args.kind ∷ c.args.date ∷ c.args.mandate ∷ c.args.a ∷ [] in
-    let values1 : List ℕ = given ++ (c.in-Value.b ∷ []) in
-    let values2 : List ℕ = values1 ++ (c.in-Value-field.c ∷ []) in
+    let values1 : List ℕ = given ++ (c.in-Some.b ∷ []) in
+    let values2 : List ℕ = values1 ++ (c.in-Some-field.c ∷ []) in
     let before : read_fields widths 0 c.args.line.now ≡ after given (read_fields (drop 4 widths) 31 c.args.line.now) = let l = c.args.line.now in
     let long = c.requires.lengths.0 in
     let p = c.requires.read in
@@ -81,20 +81,20 @@ returns-in_default-field-2 c =
     let line1 : List ℕ = c.args.line.now in
     let after1 : read_fields widths 0 line1 ≡ after values1 (read_fields (drop 5 widths) 41 line1) = before
     ∙ after_value given (drop 5 widths) line1 31 10 c.requires.lengths.0 refl
-    c.in-Value.b
-    (sym c.field.ensures ∙ c.in-Value.is) in
+    c.in-Some.b
+    (sym c.field.ensures ∙ c.in-Some.is) in
     let after2 : read_fields widths 0 line2 ≡ after values2 (read_fields (drop 6 widths) 51 line2) = after1
     ∙ after_value values1 (drop 6 widths) line2 41 10 c.requires.lengths.0 refl
-    c.in-Value-field.c
-    (sym c.field-2.ensures ∙ c.in-Value-field.is) in
+    c.in-Some-field.c
+    (sym c.field-2.ensures ∙ c.in-Some-field.is) in
     let k = c in
     record {
-      answer = (cells_answer c.args.cells.now _ (lines.Refused BadLine)
+      answer = (cells_answer c.args.cells.now _ (Err BadLine)
           (ap taken
           (after2
           ∙ after_none values2 (drop 7 widths) line2 51 12 c.requires.lengths.0 refl
           (sym c.field-3.ensures ∙ c.in_default-field-2.is)))).0;
-      cells = (cells_answer c.args.cells.now _ (lines.Refused BadLine)
+      cells = (cells_answer c.args.cells.now _ (Err BadLine)
           (ap taken
           (after2
           ∙ after_none values2 (drop 7 widths) line2 51 12 c.requires.lengths.0 refl
@@ -105,9 +105,9 @@ pub returns-in_default-field-3 : goal.returns-in_default-field-3
 returns-in_default-field-3 c =
     let line3 : List ℕ = c.args.line.now in
     let given : List ℕ = c.args.kind ∷ c.args.date ∷ c.args.mandate ∷ c.args.a ∷ [] in
-    let values1 : List ℕ = given ++ (c.in-Value.b ∷ []) in
-    let values2 : List ℕ = values1 ++ (c.in-Value-field.c ∷ []) in
-    let values3 : List ℕ = values2 ++ (c.in-Value-field-2.amount ∷ []) in
+    let values1 : List ℕ = given ++ (c.in-Some.b ∷ []) in
+    let values2 : List ℕ = values1 ++ (c.in-Some-field.c ∷ []) in
+    let values3 : List ℕ = values2 ++ (c.in-Some-field-2.amount ∷ []) in
     let before : read_fields widths 0 c.args.line.now ≡ after given (read_fields (drop 4 widths) 31 c.args.line.now) = let l = c.args.line.now in
     let long = c.requires.lengths.0 in
     let p = c.requires.read in
@@ -118,25 +118,25 @@ returns-in_default-field-3 c =
     let line1 : List ℕ = c.args.line.now in
     let after1 : read_fields widths 0 line1 ≡ after values1 (read_fields (drop 5 widths) 41 line1) = before
     ∙ after_value given (drop 5 widths) line1 31 10 c.requires.lengths.0 refl
-    c.in-Value.b
-    (sym c.field.ensures ∙ c.in-Value.is) in
+    c.in-Some.b
+    (sym c.field.ensures ∙ c.in-Some.is) in
     let line2 : List ℕ = c.args.line.now in
     let after2 : read_fields widths 0 line2 ≡ after values2 (read_fields (drop 6 widths) 51 line2) = after1
     ∙ after_value values1 (drop 6 widths) line2 41 10 c.requires.lengths.0 refl
-    c.in-Value-field.c
-    (sym c.field-2.ensures ∙ c.in-Value-field.is) in
+    c.in-Some-field.c
+    (sym c.field-2.ensures ∙ c.in-Some-field.is) in
     let after3 : read_fields widths 0 line3 ≡ after values3 (read_fields (drop 7 widths) 63 line3) = after2
     ∙ after_value values2 (drop 7 widths) line3 51 12 c.requires.lengths.0 refl
-    c.in-Value-field-2.amount
-    (sym c.field-3.ensures ∙ c.in-Value-field-2.is) in
+    c.in-Some-field-2.amount
+    (sym c.field-3.ensures ∙ c.in-Some-field-2.is) in
     let k = c in
     record {
-      answer = (cells_answer c.args.cells.now _ (lines.Refused BadLine)
+      answer = (cells_answer c.args.cells.now _ (Err BadLine)
           (ap taken
           (after3
           ∙ after_none values3 (drop 8 widths) line3 63 9 c.requires.lengths.0 refl
           (sym c.field-4.ensures ∙ c.in_default-field-3.is)))).0;
-      cells = (cells_answer c.args.cells.now _ (lines.Refused BadLine)
+      cells = (cells_answer c.args.cells.now _ (Err BadLine)
           (ap taken
           (after3
           ∙ after_none values3 (drop 8 widths) line3 63 9 c.requires.lengths.0 refl
@@ -147,10 +147,10 @@ pub returns-in_default-field-4 : goal.returns-in_default-field-4
 returns-in_default-field-4 c =
     let line4 : List ℕ = c.args.line.now in
     let given : List ℕ = c.args.kind ∷ c.args.date ∷ c.args.mandate ∷ c.args.a ∷ [] in
-    let values1 : List ℕ = given ++ (c.in-Value.b ∷ []) in
-    let values2 : List ℕ = values1 ++ (c.in-Value-field.c ∷ []) in
-    let values3 : List ℕ = values2 ++ (c.in-Value-field-2.amount ∷ []) in
-    let values4 : List ℕ = values3 ++ (c.in-Value-field-3.second ∷ []) in
+    let values1 : List ℕ = given ++ (c.in-Some.b ∷ []) in
+    let values2 : List ℕ = values1 ++ (c.in-Some-field.c ∷ []) in
+    let values3 : List ℕ = values2 ++ (c.in-Some-field-2.amount ∷ []) in
+    let values4 : List ℕ = values3 ++ (c.in-Some-field-3.second ∷ []) in
     let before : read_fields widths 0 c.args.line.now ≡ after given (read_fields (drop 4 widths) 31 c.args.line.now) = let l = c.args.line.now in
     let long = c.requires.lengths.0 in
     let p = c.requires.read in
@@ -161,30 +161,30 @@ returns-in_default-field-4 c =
     let line1 : List ℕ = c.args.line.now in
     let after1 : read_fields widths 0 line1 ≡ after values1 (read_fields (drop 5 widths) 41 line1) = before
     ∙ after_value given (drop 5 widths) line1 31 10 c.requires.lengths.0 refl
-    c.in-Value.b
-    (sym c.field.ensures ∙ c.in-Value.is) in
+    c.in-Some.b
+    (sym c.field.ensures ∙ c.in-Some.is) in
     let line2 : List ℕ = c.args.line.now in
     let after2 : read_fields widths 0 line2 ≡ after values2 (read_fields (drop 6 widths) 51 line2) = after1
     ∙ after_value values1 (drop 6 widths) line2 41 10 c.requires.lengths.0 refl
-    c.in-Value-field.c
-    (sym c.field-2.ensures ∙ c.in-Value-field.is) in
+    c.in-Some-field.c
+    (sym c.field-2.ensures ∙ c.in-Some-field.is) in
     let line3 : List ℕ = c.args.line.now in
     let after3 : read_fields widths 0 line3 ≡ after values3 (read_fields (drop 7 widths) 63 line3) = after2
     ∙ after_value values2 (drop 7 widths) line3 51 12 c.requires.lengths.0 refl
-    c.in-Value-field-2.amount
-    (sym c.field-3.ensures ∙ c.in-Value-field-2.is) in
+    c.in-Some-field-2.amount
+    (sym c.field-3.ensures ∙ c.in-Some-field-2.is) in
     let after4 : read_fields widths 0 line4 ≡ after values4 (read_fields (drop 8 widths) 72 line4) = after3
     ∙ after_value values3 (drop 8 widths) line4 63 9 c.requires.lengths.0 refl
-    c.in-Value-field-3.second
-    (sym c.field-4.ensures ∙ c.in-Value-field-3.is) in
+    c.in-Some-field-3.second
+    (sym c.field-4.ensures ∙ c.in-Some-field-3.is) in
     let k = c in
     record {
-      answer = (cells_answer c.args.cells.now _ (lines.Refused BadLine)
+      answer = (cells_answer c.args.cells.now _ (Err BadLine)
           (ap taken
           (after4
           ∙ after_none values4 (drop 9 widths) line4 72 2 c.requires.lengths.0 refl
           (sym c.field-5.ensures ∙ c.in_default-field-4.is)))).0;
-      cells = (cells_answer c.args.cells.now _ (lines.Refused BadLine)
+      cells = (cells_answer c.args.cells.now _ (Err BadLine)
           (ap taken
           (after4
           ∙ after_none values4 (drop 9 widths) line4 72 2 c.requires.lengths.0 refl
@@ -194,11 +194,11 @@ returns-in_default-field-4 c =
 pub bounds-cells-0 : goal.bounds-cells-0
 bounds-cells-0 c =
     let given : List ℕ = c.args.kind ∷ c.args.date ∷ c.args.mandate ∷ c.args.a ∷ [] in
-    let values1 : List ℕ = given ++ (c.in-Value.b ∷ []) in
-    let values2 : List ℕ = values1 ++ (c.in-Value-field.c ∷ []) in
-    let values3 : List ℕ = values2 ++ (c.in-Value-field-2.amount ∷ []) in
-    let values4 : List ℕ = values3 ++ (c.in-Value-field-3.second ∷ []) in
-    let values5 : List ℕ = values4 ++ (c.in-Value-field-4.code ∷ []) in
+    let values1 : List ℕ = given ++ (c.in-Some.b ∷ []) in
+    let values2 : List ℕ = values1 ++ (c.in-Some-field.c ∷ []) in
+    let values3 : List ℕ = values2 ++ (c.in-Some-field-2.amount ∷ []) in
+    let values4 : List ℕ = values3 ++ (c.in-Some-field-3.second ∷ []) in
+    let values5 : List ℕ = values4 ++ (c.in-Some-field-4.code ∷ []) in
     let values : List ℕ = values5 in
     let cells : List ℕ = c.args.cells.now in
     let nine : length cells ≡ length widths = c.requires.lengths.1 in
@@ -208,11 +208,11 @@ bounds-cells-0 c =
 pub bounds-cells-1 : goal.bounds-cells-1
 bounds-cells-1 c =
     let given : List ℕ = c.args.kind ∷ c.args.date ∷ c.args.mandate ∷ c.args.a ∷ [] in
-    let values1 : List ℕ = given ++ (c.in-Value.b ∷ []) in
-    let values2 : List ℕ = values1 ++ (c.in-Value-field.c ∷ []) in
-    let values3 : List ℕ = values2 ++ (c.in-Value-field-2.amount ∷ []) in
-    let values4 : List ℕ = values3 ++ (c.in-Value-field-3.second ∷ []) in
-    let values5 : List ℕ = values4 ++ (c.in-Value-field-4.code ∷ []) in
+    let values1 : List ℕ = given ++ (c.in-Some.b ∷ []) in
+    let values2 : List ℕ = values1 ++ (c.in-Some-field.c ∷ []) in
+    let values3 : List ℕ = values2 ++ (c.in-Some-field-2.amount ∷ []) in
+    let values4 : List ℕ = values3 ++ (c.in-Some-field-3.second ∷ []) in
+    let values5 : List ℕ = values4 ++ (c.in-Some-field-4.code ∷ []) in
     let values : List ℕ = values5 in
     let cells : List ℕ = c.args.cells.now in
     let nine : length cells ≡ length widths = c.requires.lengths.1 in
@@ -222,11 +222,11 @@ bounds-cells-1 c =
 pub bounds-cells-2 : goal.bounds-cells-2
 bounds-cells-2 c =
     let given : List ℕ = c.args.kind ∷ c.args.date ∷ c.args.mandate ∷ c.args.a ∷ [] in
-    let values1 : List ℕ = given ++ (c.in-Value.b ∷ []) in
-    let values2 : List ℕ = values1 ++ (c.in-Value-field.c ∷ []) in
-    let values3 : List ℕ = values2 ++ (c.in-Value-field-2.amount ∷ []) in
-    let values4 : List ℕ = values3 ++ (c.in-Value-field-3.second ∷ []) in
-    let values5 : List ℕ = values4 ++ (c.in-Value-field-4.code ∷ []) in
+    let values1 : List ℕ = given ++ (c.in-Some.b ∷ []) in
+    let values2 : List ℕ = values1 ++ (c.in-Some-field.c ∷ []) in
+    let values3 : List ℕ = values2 ++ (c.in-Some-field-2.amount ∷ []) in
+    let values4 : List ℕ = values3 ++ (c.in-Some-field-3.second ∷ []) in
+    let values5 : List ℕ = values4 ++ (c.in-Some-field-4.code ∷ []) in
     let values : List ℕ = values5 in
     let cells : List ℕ = c.args.cells.now in
     let nine : length cells ≡ length widths = c.requires.lengths.1 in
@@ -236,11 +236,11 @@ bounds-cells-2 c =
 pub bounds-cells-3 : goal.bounds-cells-3
 bounds-cells-3 c =
     let given : List ℕ = c.args.kind ∷ c.args.date ∷ c.args.mandate ∷ c.args.a ∷ [] in
-    let values1 : List ℕ = given ++ (c.in-Value.b ∷ []) in
-    let values2 : List ℕ = values1 ++ (c.in-Value-field.c ∷ []) in
-    let values3 : List ℕ = values2 ++ (c.in-Value-field-2.amount ∷ []) in
-    let values4 : List ℕ = values3 ++ (c.in-Value-field-3.second ∷ []) in
-    let values5 : List ℕ = values4 ++ (c.in-Value-field-4.code ∷ []) in
+    let values1 : List ℕ = given ++ (c.in-Some.b ∷ []) in
+    let values2 : List ℕ = values1 ++ (c.in-Some-field.c ∷ []) in
+    let values3 : List ℕ = values2 ++ (c.in-Some-field-2.amount ∷ []) in
+    let values4 : List ℕ = values3 ++ (c.in-Some-field-3.second ∷ []) in
+    let values5 : List ℕ = values4 ++ (c.in-Some-field-4.code ∷ []) in
     let values : List ℕ = values5 in
     let cells : List ℕ = c.args.cells.now in
     let nine : length cells ≡ length widths = c.requires.lengths.1 in
@@ -250,11 +250,11 @@ bounds-cells-3 c =
 pub bounds-cells-4 : goal.bounds-cells-4
 bounds-cells-4 c =
     let given : List ℕ = c.args.kind ∷ c.args.date ∷ c.args.mandate ∷ c.args.a ∷ [] in
-    let values1 : List ℕ = given ++ (c.in-Value.b ∷ []) in
-    let values2 : List ℕ = values1 ++ (c.in-Value-field.c ∷ []) in
-    let values3 : List ℕ = values2 ++ (c.in-Value-field-2.amount ∷ []) in
-    let values4 : List ℕ = values3 ++ (c.in-Value-field-3.second ∷ []) in
-    let values5 : List ℕ = values4 ++ (c.in-Value-field-4.code ∷ []) in
+    let values1 : List ℕ = given ++ (c.in-Some.b ∷ []) in
+    let values2 : List ℕ = values1 ++ (c.in-Some-field.c ∷ []) in
+    let values3 : List ℕ = values2 ++ (c.in-Some-field-2.amount ∷ []) in
+    let values4 : List ℕ = values3 ++ (c.in-Some-field-3.second ∷ []) in
+    let values5 : List ℕ = values4 ++ (c.in-Some-field-4.code ∷ []) in
     let values : List ℕ = values5 in
     let cells : List ℕ = c.args.cells.now in
     let nine : length cells ≡ length widths = c.requires.lengths.1 in
@@ -264,11 +264,11 @@ bounds-cells-4 c =
 pub bounds-cells-5 : goal.bounds-cells-5
 bounds-cells-5 c =
     let given : List ℕ = c.args.kind ∷ c.args.date ∷ c.args.mandate ∷ c.args.a ∷ [] in
-    let values1 : List ℕ = given ++ (c.in-Value.b ∷ []) in
-    let values2 : List ℕ = values1 ++ (c.in-Value-field.c ∷ []) in
-    let values3 : List ℕ = values2 ++ (c.in-Value-field-2.amount ∷ []) in
-    let values4 : List ℕ = values3 ++ (c.in-Value-field-3.second ∷ []) in
-    let values5 : List ℕ = values4 ++ (c.in-Value-field-4.code ∷ []) in
+    let values1 : List ℕ = given ++ (c.in-Some.b ∷ []) in
+    let values2 : List ℕ = values1 ++ (c.in-Some-field.c ∷ []) in
+    let values3 : List ℕ = values2 ++ (c.in-Some-field-2.amount ∷ []) in
+    let values4 : List ℕ = values3 ++ (c.in-Some-field-3.second ∷ []) in
+    let values5 : List ℕ = values4 ++ (c.in-Some-field-4.code ∷ []) in
     let values : List ℕ = values5 in
     let cells : List ℕ = c.args.cells.now in
     let nine : length cells ≡ length widths = c.requires.lengths.1 in
@@ -278,11 +278,11 @@ bounds-cells-5 c =
 pub bounds-cells-6 : goal.bounds-cells-6
 bounds-cells-6 c =
     let given : List ℕ = c.args.kind ∷ c.args.date ∷ c.args.mandate ∷ c.args.a ∷ [] in
-    let values1 : List ℕ = given ++ (c.in-Value.b ∷ []) in
-    let values2 : List ℕ = values1 ++ (c.in-Value-field.c ∷ []) in
-    let values3 : List ℕ = values2 ++ (c.in-Value-field-2.amount ∷ []) in
-    let values4 : List ℕ = values3 ++ (c.in-Value-field-3.second ∷ []) in
-    let values5 : List ℕ = values4 ++ (c.in-Value-field-4.code ∷ []) in
+    let values1 : List ℕ = given ++ (c.in-Some.b ∷ []) in
+    let values2 : List ℕ = values1 ++ (c.in-Some-field.c ∷ []) in
+    let values3 : List ℕ = values2 ++ (c.in-Some-field-2.amount ∷ []) in
+    let values4 : List ℕ = values3 ++ (c.in-Some-field-3.second ∷ []) in
+    let values5 : List ℕ = values4 ++ (c.in-Some-field-4.code ∷ []) in
     let values : List ℕ = values5 in
     let cells : List ℕ = c.args.cells.now in
     let nine : length cells ≡ length widths = c.requires.lengths.1 in
@@ -292,11 +292,11 @@ bounds-cells-6 c =
 pub bounds-cells-7 : goal.bounds-cells-7
 bounds-cells-7 c =
     let given : List ℕ = c.args.kind ∷ c.args.date ∷ c.args.mandate ∷ c.args.a ∷ [] in
-    let values1 : List ℕ = given ++ (c.in-Value.b ∷ []) in
-    let values2 : List ℕ = values1 ++ (c.in-Value-field.c ∷ []) in
-    let values3 : List ℕ = values2 ++ (c.in-Value-field-2.amount ∷ []) in
-    let values4 : List ℕ = values3 ++ (c.in-Value-field-3.second ∷ []) in
-    let values5 : List ℕ = values4 ++ (c.in-Value-field-4.code ∷ []) in
+    let values1 : List ℕ = given ++ (c.in-Some.b ∷ []) in
+    let values2 : List ℕ = values1 ++ (c.in-Some-field.c ∷ []) in
+    let values3 : List ℕ = values2 ++ (c.in-Some-field-2.amount ∷ []) in
+    let values4 : List ℕ = values3 ++ (c.in-Some-field-3.second ∷ []) in
+    let values5 : List ℕ = values4 ++ (c.in-Some-field-4.code ∷ []) in
     let values : List ℕ = values5 in
     let cells : List ℕ = c.args.cells.now in
     let nine : length cells ≡ length widths = c.requires.lengths.1 in
@@ -306,25 +306,25 @@ bounds-cells-7 c =
 pub bounds-cells-8 : goal.bounds-cells-8
 bounds-cells-8 c =
     let given : List ℕ = c.args.kind ∷ c.args.date ∷ c.args.mandate ∷ c.args.a ∷ [] in
-    let values1 : List ℕ = given ++ (c.in-Value.b ∷ []) in
-    let values2 : List ℕ = values1 ++ (c.in-Value-field.c ∷ []) in
-    let values3 : List ℕ = values2 ++ (c.in-Value-field-2.amount ∷ []) in
-    let values4 : List ℕ = values3 ++ (c.in-Value-field-3.second ∷ []) in
-    let values5 : List ℕ = values4 ++ (c.in-Value-field-4.code ∷ []) in
+    let values1 : List ℕ = given ++ (c.in-Some.b ∷ []) in
+    let values2 : List ℕ = values1 ++ (c.in-Some-field.c ∷ []) in
+    let values3 : List ℕ = values2 ++ (c.in-Some-field-2.amount ∷ []) in
+    let values4 : List ℕ = values3 ++ (c.in-Some-field-3.second ∷ []) in
+    let values5 : List ℕ = values4 ++ (c.in-Some-field-4.code ∷ []) in
     let values : List ℕ = values5 in
     let cells : List ℕ = c.args.cells.now in
     let nine : length cells ≡ length widths = c.requires.lengths.1 in
     let cell : (n : ℕ) → n < length widths → n < length (stored cells 0 (take n values)) = λ n h. cell_within cells (take n values) n nine h in
     cell 8 (lit< tt)
 
-pub returns-in-Refused : goal.returns-in-Refused
-returns-in-Refused c =
+pub returns-in-Err : goal.returns-in-Err
+returns-in-Err c =
     let given : List ℕ = c.args.kind ∷ c.args.date ∷ c.args.mandate ∷ c.args.a ∷ [] in
-    let values1 : List ℕ = given ++ (c.in-Value.b ∷ []) in
-    let values2 : List ℕ = values1 ++ (c.in-Value-field.c ∷ []) in
-    let values3 : List ℕ = values2 ++ (c.in-Value-field-2.amount ∷ []) in
-    let values4 : List ℕ = values3 ++ (c.in-Value-field-3.second ∷ []) in
-    let values5 : List ℕ = values4 ++ (c.in-Value-field-4.code ∷ []) in
+    let values1 : List ℕ = given ++ (c.in-Some.b ∷ []) in
+    let values2 : List ℕ = values1 ++ (c.in-Some-field.c ∷ []) in
+    let values3 : List ℕ = values2 ++ (c.in-Some-field-2.amount ∷ []) in
+    let values4 : List ℕ = values3 ++ (c.in-Some-field-3.second ∷ []) in
+    let values5 : List ℕ = values4 ++ (c.in-Some-field-4.code ∷ []) in
     let values : List ℕ = values5 in
     let cells : List ℕ = c.args.cells.now in
     let line5 : List ℕ = c.args.line.now in
@@ -338,44 +338,44 @@ returns-in-Refused c =
     let line1 : List ℕ = c.args.line.now in
     let after1 : read_fields widths 0 line1 ≡ after values1 (read_fields (drop 5 widths) 41 line1) = before
     ∙ after_value given (drop 5 widths) line1 31 10 c.requires.lengths.0 refl
-    c.in-Value.b
-    (sym c.field.ensures ∙ c.in-Value.is) in
+    c.in-Some.b
+    (sym c.field.ensures ∙ c.in-Some.is) in
     let line2 : List ℕ = c.args.line.now in
     let after2 : read_fields widths 0 line2 ≡ after values2 (read_fields (drop 6 widths) 51 line2) = after1
     ∙ after_value values1 (drop 6 widths) line2 41 10 c.requires.lengths.0 refl
-    c.in-Value-field.c
-    (sym c.field-2.ensures ∙ c.in-Value-field.is) in
+    c.in-Some-field.c
+    (sym c.field-2.ensures ∙ c.in-Some-field.is) in
     let line3 : List ℕ = c.args.line.now in
     let after3 : read_fields widths 0 line3 ≡ after values3 (read_fields (drop 7 widths) 63 line3) = after2
     ∙ after_value values2 (drop 7 widths) line3 51 12 c.requires.lengths.0 refl
-    c.in-Value-field-2.amount
-    (sym c.field-3.ensures ∙ c.in-Value-field-2.is) in
+    c.in-Some-field-2.amount
+    (sym c.field-3.ensures ∙ c.in-Some-field-2.is) in
     let line4 : List ℕ = c.args.line.now in
     let after4 : read_fields widths 0 line4 ≡ after values4 (read_fields (drop 8 widths) 72 line4) = after3
     ∙ after_value values3 (drop 8 widths) line4 63 9 c.requires.lengths.0 refl
-    c.in-Value-field-3.second
-    (sym c.field-4.ensures ∙ c.in-Value-field-3.is) in
+    c.in-Some-field-3.second
+    (sym c.field-4.ensures ∙ c.in-Some-field-3.is) in
     let after5 : read_fields widths 0 line5 ≡ after values5 (read_fields (drop 9 widths) 74 line5) = after4
     ∙ after_value values4 (drop 9 widths) line5 72 2 c.requires.lengths.0 refl
-    c.in-Value-field-4.code
-    (sym c.field-5.ensures ∙ c.in-Value-field-4.is) in
+    c.in-Some-field-4.code
+    (sym c.field-5.ensures ∙ c.in-Some-field-4.is) in
     let answer : taken (read_fields widths 0 line5) ≡ answer_of (event_of values) c.check.result = ap taken after5 ∙ ap (answer_of (event_of values)) (sym c.check.ensures.answer) in
     let k = c in
     record {
-      answer = (cells_answer cells _ (lines.Refused c.in-Refused.r)
-          (answer ∙ ap (answer_of (event_of values)) c.in-Refused.is)).0;
-      cells = (cells_answer cells _ (lines.Refused c.in-Refused.r)
-          (answer ∙ ap (answer_of (event_of values)) c.in-Refused.is)).1;
+      answer = (cells_answer cells _ (Err c.in-Err.r)
+          (answer ∙ ap (answer_of (event_of values)) c.in-Err.is)).0;
+      cells = (cells_answer cells _ (Err c.in-Err.r)
+          (answer ∙ ap (answer_of (event_of values)) c.in-Err.is)).1;
     }
 
-pub returns-in-Within : goal.returns-in-Within
-returns-in-Within c =
+pub returns-in-Ok : goal.returns-in-Ok
+returns-in-Ok c =
     let given : List ℕ = c.args.kind ∷ c.args.date ∷ c.args.mandate ∷ c.args.a ∷ [] in
-    let values1 : List ℕ = given ++ (c.in-Value.b ∷ []) in
-    let values2 : List ℕ = values1 ++ (c.in-Value-field.c ∷ []) in
-    let values3 : List ℕ = values2 ++ (c.in-Value-field-2.amount ∷ []) in
-    let values4 : List ℕ = values3 ++ (c.in-Value-field-3.second ∷ []) in
-    let values5 : List ℕ = values4 ++ (c.in-Value-field-4.code ∷ []) in
+    let values1 : List ℕ = given ++ (c.in-Some.b ∷ []) in
+    let values2 : List ℕ = values1 ++ (c.in-Some-field.c ∷ []) in
+    let values3 : List ℕ = values2 ++ (c.in-Some-field-2.amount ∷ []) in
+    let values4 : List ℕ = values3 ++ (c.in-Some-field-3.second ∷ []) in
+    let values5 : List ℕ = values4 ++ (c.in-Some-field-4.code ∷ []) in
     let values : List ℕ = values5 in
     let cells : List ℕ = c.args.cells.now in
     let nine : length cells ≡ length widths = c.requires.lengths.1 in
@@ -390,30 +390,30 @@ returns-in-Within c =
     let line1 : List ℕ = c.args.line.now in
     let after1 : read_fields widths 0 line1 ≡ after values1 (read_fields (drop 5 widths) 41 line1) = before
     ∙ after_value given (drop 5 widths) line1 31 10 c.requires.lengths.0 refl
-    c.in-Value.b
-    (sym c.field.ensures ∙ c.in-Value.is) in
+    c.in-Some.b
+    (sym c.field.ensures ∙ c.in-Some.is) in
     let line2 : List ℕ = c.args.line.now in
     let after2 : read_fields widths 0 line2 ≡ after values2 (read_fields (drop 6 widths) 51 line2) = after1
     ∙ after_value values1 (drop 6 widths) line2 41 10 c.requires.lengths.0 refl
-    c.in-Value-field.c
-    (sym c.field-2.ensures ∙ c.in-Value-field.is) in
+    c.in-Some-field.c
+    (sym c.field-2.ensures ∙ c.in-Some-field.is) in
     let line3 : List ℕ = c.args.line.now in
     let after3 : read_fields widths 0 line3 ≡ after values3 (read_fields (drop 7 widths) 63 line3) = after2
     ∙ after_value values2 (drop 7 widths) line3 51 12 c.requires.lengths.0 refl
-    c.in-Value-field-2.amount
-    (sym c.field-3.ensures ∙ c.in-Value-field-2.is) in
+    c.in-Some-field-2.amount
+    (sym c.field-3.ensures ∙ c.in-Some-field-2.is) in
     let line4 : List ℕ = c.args.line.now in
     let after4 : read_fields widths 0 line4 ≡ after values4 (read_fields (drop 8 widths) 72 line4) = after3
     ∙ after_value values3 (drop 8 widths) line4 63 9 c.requires.lengths.0 refl
-    c.in-Value-field-3.second
-    (sym c.field-4.ensures ∙ c.in-Value-field-3.is) in
+    c.in-Some-field-3.second
+    (sym c.field-4.ensures ∙ c.in-Some-field-3.is) in
     let after5 : read_fields widths 0 line5 ≡ after values5 (read_fields (drop 9 widths) 74 line5) = after4
     ∙ after_value values4 (drop 9 widths) line5 72 2 c.requires.lengths.0 refl
-    c.in-Value-field-4.code
-    (sym c.field-5.ensures ∙ c.in-Value-field-4.is) in
+    c.in-Some-field-4.code
+    (sym c.field-5.ensures ∙ c.in-Some-field-4.is) in
     let answer : taken (read_fields widths 0 line5) ≡ answer_of (event_of values) c.check.result = ap taken after5 ∙ ap (answer_of (event_of values)) (sym c.check.ensures.answer) in
     let k = c in
     let p =
-    cells_answer cells _ (lines.Taken (event_of values))
-    (answer ∙ ap (answer_of (event_of values)) c.in-Within.is) in
+    cells_answer cells _ (Ok (event_of values))
+    (answer ∙ ap (answer_of (event_of values)) c.in-Ok.is) in
     record { answer = p.0; cells = cells_stored (event_of values) cells nine ∙ p.1 }

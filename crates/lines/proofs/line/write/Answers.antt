@@ -12,18 +12,18 @@ returns-then-out-lt-LINE c =
     let p = write_answer_short s.e s.out.now c.if-out-lt-LINE.true in
     record { answer = sym p; bytes = sym (bytes_after_refused _ _ _ p); number = ap write_number (sym p) ∙ writer_number_lem s.e s.out.now }
 
-pub returns-in-Refused : goal.returns-in-Refused
-returns-in-Refused c =
+pub returns-in-Err : goal.returns-in-Err
+returns-in-Err c =
     let s = c.args in
     let p =
     write_answer_checked s.e s.out.now c.if-out-lt-LINE.false
-    ∙ ap written_of (sym c.check.ensures.answer ∙ c.in-Refused.is) in
+    ∙ ap written_of (sym c.check.ensures.answer ∙ c.in-Err.is) in
     record { answer = sym p; bytes = sym (bytes_after_refused _ _ _ p); number = ap write_number (sym p) ∙ writer_number_lem s.e s.out.now }
 
-pub returns-in-Within : goal.returns-in-Within
-returns-in-Within c =
+pub returns-in-Ok : goal.returns-in-Ok
+returns-in-Ok c =
     let s = c.args in
     let p =
     write_answer_checked s.e s.out.now c.if-out-lt-LINE.false
-    ∙ ap written_of (sym c.check.ensures.answer ∙ c.in-Within.is) in
+    ∙ ap written_of (sym c.check.ensures.answer ∙ c.in-Ok.is) in
     record { answer = sym p; bytes = c.put_line.ensures ∙ sym (bytes_after_written _ _ p); number = ap write_number (sym p) ∙ writer_number_lem s.e s.out.now }

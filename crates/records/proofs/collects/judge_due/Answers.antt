@@ -4,8 +4,8 @@ use Rattle.records.proofs.collects.judge_due.Goals as goal
 pub judge_dates-requires : goal.judge_dates-requires
 judge_dates-requires c = c.kept_due-due.ensures
 
-pub returns-in-Refused : goal.returns-in-Refused
-returns-in-Refused c = rw (sym c.judge_dates.ensures ∙ c.in-Refused.is)
+pub returns-in-Err : goal.returns-in-Err
+returns-in-Err c = rw (sym c.judge_dates.ensures ∙ c.in-Err.is)
 
-pub returns-in-Accepted : goal.returns-in-Accepted
-returns-in-Accepted c = rw (sym c.judge_dates.ensures ∙ c.in-Accepted.is, c.kept_due-due.ensures)
+pub returns-in-Ok : goal.returns-in-Ok
+returns-in-Ok c = rw (sym c.judge_dates.ensures ∙ c.in-Ok.is, c.kept_due-due.ensures)

@@ -9,10 +9,10 @@ pub put_bank-requires : goal.put_bank-requires
 put_bank-requires c =
     let a = c.args in
     creditor_number (ledger a.header [] [] a.creditors.now [] [] []) a.date a.number
-    (sym (c.judge_creditor.ensures [] [] [] [] []) ∙ c.in-Accepted.is)
+    (sym (c.judge_creditor.ensures [] [] [] [] []) ∙ c.in-Ok.is)
 
-pub returns-in-Refused : goal.returns-in-Refused
-returns-in-Refused c = λ m k cp dp bp. done_refused _ _ _ _ _ (sym (c.judge_creditor.ensures m k cp dp bp) ∙ c.in-Refused.is)
+pub returns-in-Err : goal.returns-in-Err
+returns-in-Err c = λ m k cp dp bp. done_refused _ _ _ _ _ (sym (c.judge_creditor.ensures m k cp dp bp) ∙ c.in-Err.is)
 
-pub returns-in-Accepted : goal.returns-in-Accepted
-returns-in-Accepted c = λ m k cp dp bp. done_accepted _ _ _ _ _ (sym (c.judge_creditor.ensures m k cp dp bp) ∙ c.in-Accepted.is) (rw (c.dated_header.ensures, c.put_bank.ensures))
+pub returns-in-Ok : goal.returns-in-Ok
+returns-in-Ok c = λ m k cp dp bp. done_accepted _ _ _ _ _ (sym (c.judge_creditor.ensures m k cp dp bp) ∙ c.in-Ok.is) (rw (c.dated_header.ensures, c.put_bank.ensures))

@@ -14,12 +14,12 @@ overflow_add-used c =
     let a = s.args in
     let room : a.header.mandates < rows a.mandates.now =
     mandate_room a.found (ledger a.header a.mandates.now [] a.creditors.now [] [] []) a.date a.m
-    (sym (c.judge_mandate.ensures [] [] [] []) ∙ c.in-Accepted.is)
+    (sym (c.judge_mandate.ensures [] [] [] []) ∙ c.in-Ok.is)
     in
     omega (arith, s.well_formed.1.1.1.1.0.0)
 
-pub returns-in-Refused : goal.returns-in-Refused
-returns-in-Refused c = λ k cp dp bp. done_refused _ _ _ _ _ (sym (c.judge_mandate.ensures k cp dp bp) ∙ c.in-Refused.is)
+pub returns-in-Err : goal.returns-in-Err
+returns-in-Err c = λ k cp dp bp. done_refused _ _ _ _ _ (sym (c.judge_mandate.ensures k cp dp bp) ∙ c.in-Err.is)
 
-pub returns-in-Accepted : goal.returns-in-Accepted
-returns-in-Accepted c = λ k cp dp bp. done_accepted _ _ _ _ _ (sym (c.judge_mandate.ensures k cp dp bp) ∙ c.in-Accepted.is) (rw (c.dated_header.ensures, c.put_mandate.ensures))
+pub returns-in-Ok : goal.returns-in-Ok
+returns-in-Ok c = λ k cp dp bp. done_accepted _ _ _ _ _ (sym (c.judge_mandate.ensures k cp dp bp) ∙ c.in-Ok.is) (rw (c.dated_header.ensures, c.put_mandate.ensures))

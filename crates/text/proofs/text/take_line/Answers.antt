@@ -13,17 +13,17 @@ take_sound-requires c =
       tested = s.requires;
       is_within =
           (line_event s.args.line.now _ _ _ _ r.read_cells.ensures.answer r.read_cells.ensures.cells
-          c.in-Within.is c.event_in.ensures).1;
+          c.in-Ok.is c.event_in.ensures).1;
     }
 
-pub returns-in-Refused : goal.returns-in-Refused
-returns-in-Refused c = line_refused _ _ _ _ (cells_refused _ _ (sym c.read_cells.ensures.answer ∙ c.in-Refused.is))
+pub returns-in-Err : goal.returns-in-Err
+returns-in-Err c = line_refused _ _ _ _ (cells_refused _ _ (sym c.read_cells.ensures.answer ∙ c.in-Err.is))
 
-pub returns-in-Within : goal.returns-in-Within
-returns-in-Within c =
+pub returns-in-Ok : goal.returns-in-Ok
+returns-in-Ok c =
     let s = c in
     let r = c in
     line_taken _ _ _ _ _
     (line_event s.args.line.now _ _ _ _ r.read_cells.ensures.answer r.read_cells.ensures.cells
-    c.in-Within.is c.event_in.ensures).0
+    c.in-Ok.is c.event_in.ensures).0
     c.take_sound.ensures

@@ -12,26 +12,26 @@ pub returns-in_default : goal.returns-in_default
 returns-in_default c = answered_end _ _ _ _ _ _ _ _ _ _ _ c.loop-at.invariant.0 (end_from_none _ _ (sym c.line_end.ensures ∙ c.in_default.is))
 
 pub overflow_add-next : goal.overflow_add-next
-overflow_add-next c = omega (arith, (end_from_at _ _ _ (sym c.line_end.ensures ∙ c.in-At.is)).inside, c.well_formed)
+overflow_add-next c = omega (arith, (end_from_at _ _ _ (sym c.line_end.ensures ∙ c.in-Some.is)).inside, c.well_formed)
 
 pub slice_bounds-end_line-count : goal.slice_bounds-end_line-count
-slice_bounds-end_line-count c = omega (arith, (end_from_at _ _ _ (sym c.line_end.ensures ∙ c.in-At.is)).onward)
+slice_bounds-end_line-count c = omega (arith, (end_from_at _ _ _ (sym c.line_end.ensures ∙ c.in-Some.is)).onward)
 
 pub slice_bounds-end_line-start : goal.slice_bounds-end_line-start
-slice_bounds-end_line-start c = omega (arith, (end_from_at _ _ _ (sym c.line_end.ensures ∙ c.in-At.is)).onward)
+slice_bounds-end_line-start c = omega (arith, (end_from_at _ _ _ (sym c.line_end.ensures ∙ c.in-Some.is)).onward)
 
 pub slice_bounds-end_line-end : goal.slice_bounds-end_line-end
-slice_bounds-end_line-end c = omega (arith, (end_from_at _ _ _ (sym c.line_end.ensures ∙ c.in-At.is)).inside)
+slice_bounds-end_line-end c = omega (arith, (end_from_at _ _ _ (sym c.line_end.ensures ∙ c.in-Some.is)).inside)
 
 pub end_line-p-requires : goal.end_line-p-requires
-end_line-p-requires c = record { tested = c.loop-at.invariant.0.tested; room = line_room _ _ _ _ _ c.loop-at.invariant.0.few (end_from_at _ _ _ (sym c.line_end.ensures ∙ c.in-At.is)).onward (end_from_at _ _ _ (sym c.line_end.ensures ∙ c.in-At.is)).inside (rw c.loop-at.invariant.1 c.requires.room) }
+end_line-p-requires c = record { tested = c.loop-at.invariant.0.tested; room = line_room _ _ _ _ _ c.loop-at.invariant.0.few (end_from_at _ _ _ (sym c.line_end.ensures ∙ c.in-Some.is)).onward (end_from_at _ _ _ (sym c.line_end.ensures ∙ c.in-Some.is)).inside (rw c.loop-at.invariant.1 c.requires.room) }
 
 pub loop-at-smaller : goal.loop-at-smaller
-loop-at-smaller c = omega (arith, c.loop-at-test.true, (end_from_at _ _ _ (sym c.line_end.ensures ∙ c.in-At.is)).onward, (end_from_at _ _ _ (sym c.line_end.ensures ∙ c.in-At.is)).inside)
+loop-at-smaller c = omega (arith, c.loop-at-test.true, (end_from_at _ _ _ (sym c.line_end.ensures ∙ c.in-Some.is)).onward, (end_from_at _ _ _ (sym c.line_end.ensures ∙ c.in-Some.is)).inside)
 
 pub loop-at-preserved : goal.loop-at-preserved
 loop-at-preserved c = (
-  answered_line _ _ _ _ _ _ _ _ (end_from_at _ _ _ (sym c.line_end.ensures ∙ c.in-At.is)) _ _ _ _ _ _ _ c.loop-at.invariant.0 refl c.end_line-p.ensures,
+  answered_line _ _ _ _ _ _ _ _ (end_from_at _ _ _ (sym c.line_end.ensures ∙ c.in-Some.is)) _ _ _ _ _ _ _ c.loop-at.invariant.0 refl c.end_line-p.ensures,
   c.end_line-p.auto.out ∙ c.loop-at.invariant.1,
   c.end_line-p.auto.mandates ∙ c.loop-at.invariant.2,
   c.end_line-p.auto.collections ∙ c.loop-at.invariant.3,

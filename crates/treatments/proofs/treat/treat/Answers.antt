@@ -3,12 +3,12 @@ use Rattle.treatments.proofs.Laws.Treatments.{treat_refused, treat_marked, treat
 use mathlib.Core.Path.{sym, ◌∙◌}
 use Rattle.treatments.proofs.treat.treat.Goals as goal
 
-pub returns-in-Refuse : goal.returns-in-Refuse
-returns-in-Refuse c =
+pub returns-in-Err : goal.returns-in-Err
+returns-in-Err c =
     λ m k.
     let a = c.args in
     let l = ledger a.header m a.collections.now k a.creditor_positions.now a.debtor_positions.now a.bank_positions.now in
-    treat_refused a.found l a.date a.t _ c.in-Refuse.r (rw (← c.is_used-there.ensures, ← c.found_row-row.ensures, ← c.collection_at.ensures) (sym c.verdict_on.ensures ∙ c.in-Refuse.is))
+    treat_refused a.found l a.date a.t _ c.in-Err.r (rw (← c.is_used-there.ensures, ← c.found_row-row.ensures, ← c.collection_at.ensures) (sym c.verdict_on.ensures ∙ c.in-Err.is))
 
 pub returns-in-Mark : goal.returns-in-Mark
 returns-in-Mark c =

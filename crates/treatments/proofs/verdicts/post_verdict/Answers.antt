@@ -1,7 +1,7 @@
 use Rattle.treatments.proofs.verdicts.post_verdict.Goals as goal
 
-pub returns-in-Amounts : goal.returns-in-Amounts
-returns-in-Amounts c = rw c.in-Amounts.is
+pub returns-in-Some : goal.returns-in-Some
+returns-in-Some c = rw c.in-Some.is
 
-pub returns-in-OutsideLimits : goal.returns-in-OutsideLimits
-returns-in-OutsideLimits c = rw c.in-OutsideLimits.is
+pub returns-in-None : goal.returns-in-None
+returns-in-None c = rw c.in-None.is
