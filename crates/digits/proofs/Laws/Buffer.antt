@@ -61,7 +61,7 @@ module _ (at w : ℕ) (l : List ℕ) where
       ∙ no_value (leb w 12 && has_room at w (length l)))
       (true_or_false (ltb 0 w))
     where
-      no_value : (b : Bool) → cond b None None ≡ None
+      no_value : (b : Bool) → cond {A = Option ℕ} b None None ≡ None
       no_value true = refl
       no_value false = refl
 

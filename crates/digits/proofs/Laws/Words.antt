@@ -708,7 +708,7 @@ lead b s h =
     plain : (x : ℕ) → 0 * 10 + x ≡ x
     plain x = omega arith
 
-    nothing : (t : Bool) → cond t None None ≡ None
+    nothing : (t : Bool) → cond {A = Option ℕ} t None None ≡ None
     nothing true = refl
     nothing false = refl
 
