@@ -5,7 +5,7 @@
 use positions::amounts::{refunded, reversed, settlement};
 use positions::compensation::{compensation, rate_days, rate_days_amount};
 use positions::posting::{post, transfer};
-use positions::PostAnswer;
+use positions::{PostAnswer, Postings};
 use refusals::{Refusal, number_of};
 use std::io;
 

@@ -6,6 +6,7 @@ ghost use Rattle.treatments.specs.Treatments.{refund_after, undone_of};
 use calendar::periods::days_between;
 use model::Way;
 use positions::amounts::{refunded, reversed};
+use positions::Postings;
 use positions::compensation::compensation;
 
 // The postings of a refund, with its compensation.
