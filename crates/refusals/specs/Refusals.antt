@@ -1,6 +1,6 @@
--- The number that document 01, "What is refused, in checking order", gives each refusal.
+-- The number that document 01, "What is refused, in checking order", gives each refusal, and that of an answer.
 -- Assumes nothing.
-use Rattle.std.specs.Prelude.{ℕ}
+use Rattle.std.specs.Prelude.{ℕ, Result, Ok, Err}
 use Rattle.refusals.specs.declared.Refusal.{Refusal}
 use Rattle.refusals.specs.declared.Refusal.TheVariants.{BadLine, UnfitMemory, UnknownKind, BadDate, BadField, BeforeLatest, NotBusinessDay, AlreadyExists, DoesNotExist, NoRowLeft, NotLive, WrongSequence, BadTiming, Lapsed, WrongState, BeforeDue, AfterLastDay}
 
@@ -22,3 +22,8 @@ number_of Lapsed = 14
 number_of WrongState = 15
 number_of BeforeDue = 16
 number_of AfterLastDay = 17
+
+-- the number of an answer: 0 where nothing is refused
+abbrev pub answer_number : Result Unit Refusal → ℕ
+answer_number (Ok tt) = 0
+answer_number (Err r) = number_of r

@@ -2,9 +2,9 @@
 #![tactic(auto)]
 
 ghost use Rattle.std.specs.Prelude.{◌≡◌};
-ghost use Rattle.refusals.specs.Refusals.{number_of};
+ghost use Rattle.refusals.specs.Refusals.{number_of, answer_number};
 
-#[derive(Clone, Copy)]
+#[derive(Clone, Copy, Debug, PartialEq, Eq)]
 pub enum Refusal {
     BadLine,
     UnfitMemory,
@@ -25,27 +25,43 @@ pub enum Refusal {
     AfterLastDay,
 }
 
+// The paper's number of a refusal.
+impl From<Refusal> for u64 {
+    ghost from_gives = { λ r n. n ≡ number_of r };
+
+    fn from(r: Refusal) -> u64 {
+        match r {
+            Refusal::BadLine => 1,
+            Refusal::UnfitMemory => 2,
+            Refusal::UnknownKind => 3,
+            Refusal::BadDate => 4,
+            Refusal::BadField => 5,
+            Refusal::BeforeLatest => 6,
+            Refusal::NotBusinessDay => 7,
+            Refusal::AlreadyExists => 8,
+            Refusal::DoesNotExist => 9,
+            Refusal::NoRowLeft => 10,
+            Refusal::NotLive => 11,
+            Refusal::WrongSequence => 12,
+            Refusal::BadTiming => 13,
+            Refusal::Lapsed => 14,
+            Refusal::WrongState => 15,
+            Refusal::BeforeDue => 16,
+            Refusal::AfterLastDay => 17,
+        }
+    }
+}
+
 // The number of a refusal.
 pub fn number_of(r: Refusal) -> u64
     ensures { result ≡ number_of r }
 {
-    match r {
-        Refusal::BadLine => 1,
-        Refusal::UnfitMemory => 2,
-        Refusal::UnknownKind => 3,
-        Refusal::BadDate => 4,
-        Refusal::BadField => 5,
-        Refusal::BeforeLatest => 6,
-        Refusal::NotBusinessDay => 7,
-        Refusal::AlreadyExists => 8,
-        Refusal::DoesNotExist => 9,
-        Refusal::NoRowLeft => 10,
-        Refusal::NotLive => 11,
-        Refusal::WrongSequence => 12,
-        Refusal::BadTiming => 13,
-        Refusal::Lapsed => 14,
-        Refusal::WrongState => 15,
-        Refusal::BeforeDue => 16,
-        Refusal::AfterLastDay => 17,
-    }
+    u64::from(r)
+}
+
+// The paper's number of an answer: 0 where nothing is refused.
+pub fn answer_number(answer: Result<(), Refusal>) -> u64
+    ensures { result ≡ answer_number answer }
+{
+    answer.err().map_or(0, u64::from)
 }
