@@ -7,6 +7,7 @@ use Rattle.refusals.specs.declared.Refusal.{Refusal}
 use Rattle.refusals.specs.Refusals.{number_of}
 use Rattle.refusals.specs.declared.Refusal.TheVariants.{BadLine, UnfitMemory}
 use Rattle.events.specs.declared.Event.{Event}
+pub use Rattle.events.specs.Fields.{fields_of, event_of}
 use Rattle.digits.specs.Field.{field_bytes, read_field}
 use Rattle.events.specs.Limits.{limit_checks, checked, limit_numbers, limit_number}
 
@@ -15,32 +16,6 @@ use Rattle.events.specs.Limits.{limit_checks, checked, limit_numbers, limit_numb
 -- of kind, date, mandate, a, b, c, amount, second date, code
 abbrev pub widths : List ℕ
 widths = 2 ∷ 9 ∷ 10 ∷ 10 ∷ 10 ∷ 10 ∷ 12 ∷ 9 ∷ 2 ∷ []
-
-abbrev pub fields_of : Event → List ℕ
-fields_of e =
-    e.kind
-    ∷ e.date
-    ∷ e.mandate
-    ∷ e.a
-    ∷ e.b
-    ∷ e.c
-    ∷ e.amount
-    ∷ e.second
-    ∷ e.code
-    ∷ []
-
-abbrev pub event_of : List ℕ → Event
-event_of vs = record {
-  kind = get_or vs 0 0;
-  date = get_or vs 1 0;
-  mandate = get_or vs 2 0;
-  a = get_or vs 3 0;
-  b = get_or vs 4 0;
-  c = get_or vs 5 0;
-  amount = get_or vs 6 0;
-  second = get_or vs 7 0;
-  code = get_or vs 8 0;
-}
 
 -- the columns of the nine fields
 abbrev pub columns : ℕ
