@@ -5,6 +5,7 @@
 -- `ReadsBack` at the end holds what reads a cell to what writes it. Assumes nothing.
 use Rattle.std.specs.Prelude.{◌≡◌, Bool, ◌&&◌, List, [], ◌∷◌, ℕ, eqb, ℤ, pos, length, get_or, set, Result, Ok, Err}
 use Rattle.events.specs.declared.Event.{Event}
+use Rattle.events.specs.Fields.{fields_of, event_of}
 use Rattle.tables.specs.declared.Header.{Header}
 use Rattle.tables.specs.Ledger.{Ledger}
 use Rattle.cells.specs.declared.Counts.{Counts}
@@ -38,17 +39,7 @@ abbrev pub filled_in : List ℕ → ℕ
 filled_in state = get_or state 4 0
 
 abbrev pub cells_event : List ℕ → Event
-cells_event event = record {
-  kind = get_or event 0 0;
-  date = get_or event 1 0;
-  mandate = get_or event 2 0;
-  a = get_or event 3 0;
-  b = get_or event 4 0;
-  c = get_or event 5 0;
-  amount = get_or event 6 0;
-  second = get_or event 7 0;
-  code = get_or event 8 0;
-}
+cells_event event = event_of event
 
 -- ---- cells anew; the others stay as they were
 
@@ -102,8 +93,7 @@ head_of l = record {
 
 -- the fields of an event in their order
 abbrev pub field_cells : Event → List ℕ
-field_cells e =
-    e.kind ∷ e.date ∷ e.mandate ∷ e.a ∷ e.b ∷ e.c ∷ e.amount ∷ e.second ∷ e.code ∷ []
+field_cells e = fields_of e
 
 abbrev pub with_written : ℕ → Counts → Counts
 with_written n c = record { lines = c.lines; partial = c.partial; written = n; past = c.past }

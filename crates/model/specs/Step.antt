@@ -5,6 +5,7 @@ use Rattle.std.specs.Prelude.{Bool, true, false, cond, ◌&&◌, List, [], ◌�
 use Rattle.common.specs.Checks.{Check, check, judged}
 use Rattle.refusals.specs.declared.Refusal.{Refusal}
 use Rattle.refusals.specs.Refusals.{number_of}
+pub use Rattle.refusals.specs.Refusals.{answer_number}  -- the paper's number of an answer
 use Rattle.refusals.specs.declared.Refusal.TheVariants.{UnfitMemory, BadField}
 use Rattle.events.specs.declared.Event.{Event}
 use Rattle.calendar.specs.Gregorian.{in_range}
@@ -18,11 +19,6 @@ use Rattle.model.specs.Checks.{in_order, on_business_day, is_new, is_there, has_
 use Rattle.model.specs.Effects.{effect}
 
 -- ---- one event
-
--- the paper's number of an answer
-abbrev pub answer_number : Result Unit Refusal → ℕ
-answer_number (Ok tt) = 0
-answer_number (Err r) = number_of r
 
 abbrev pub is_accepted : Result Unit Refusal → Bool
 is_accepted (Ok tt) = true

@@ -3,7 +3,7 @@
 -- To cite: proofs/Laws/Opening. Assumes nothing.
 use Rattle.std.specs.Prelude.{cond, ℕ, pos, replicate, Result, Ok, Err}
 use Rattle.refusals.specs.declared.Refusal.{Refusal}
-use Rattle.refusals.specs.Refusals.{number_of}
+use Rattle.refusals.specs.Refusals.{number_of, answer_number}
 use Rattle.refusals.specs.declared.Refusal.TheVariants.{UnfitMemory}
 use Rattle.tables.specs.Limits.{creditor_count, debtor_count, bank_count}
 use Rattle.tables.specs.Ledger.{Ledger}
@@ -11,8 +11,7 @@ use Rattle.fitness.specs.Fitness.{sizes_fit}
 
 -- the paper's number of an answer: 0 accepted
 abbrev pub open_number : Result Unit Refusal → ℕ
-open_number (Ok tt) = 0
-open_number (Err r) = number_of r
+open_number a = answer_number a
 
 -- no rows used, no creditor, all positions, the compensation and the latest date 0; the rows' cells as they were
 unfoldable pub fresh : Ledger → Ledger
