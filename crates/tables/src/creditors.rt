@@ -3,14 +3,14 @@ ghost use Rattle.std.specs.Prelude.{◌≡◌};
 ghost use Rattle.tables.specs.Ledger.{bank_of, added};
 
 // A creditor's bank, 0 where the creditor is not added.
+#[tactic(auto, unfolding(crate::specs::Ledger::bank_of))]
 pub fn bank_of(creditors: &[u64], number: u64) -> u64
     ensures { result ≡ bank_of creditors.now number }
 {
     if number == 0 {
         return 0;
     }
-    let i = (number - 1) as usize;
-    if i < creditors.len() { creditors[i] } else { 0 }
+    creditors.get((number - 1) as usize).copied().unwrap_or(0)
 }
 
 // Whether a creditor exists.

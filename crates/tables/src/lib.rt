@@ -2,7 +2,9 @@
 // The lender gives any sizes and any content, and every public function answers for them.
 #![tactic(auto)]
 
-pub mod anew;
+ghost use Rattle.std.specs.Prelude.{◌≡◌};
+ghost use Rattle.tables.specs.Ledger.{ledger_of, ledger_in};
+
 pub mod collection_column;
 pub mod creditors;
 pub mod lookup;
@@ -18,7 +20,48 @@ pub struct Header {
     pub compensation: i64,
 }
 
+// All that is lent, to be read.
 #[derive(Clone, Copy)]
+pub struct BookRef<'a> {
+    pub header: Header,
+    pub mandates: &'a [u64],
+    pub collections: &'a [u64],
+    pub creditors: &'a [u64],
+    pub creditor_positions: &'a [i64],
+    pub debtor_positions: &'a [i64],
+    pub bank_positions: &'a [i64],
+}
+
+// All that is lent, to be changed.
+#[derive(Drop)]
+pub struct BookMut<'a> {
+    pub header: Header,
+    pub mandates: &'a mut [u64],
+    pub collections: &'a mut [u64],
+    pub creditors: &'a mut [u64],
+    pub creditor_positions: &'a mut [i64],
+    pub debtor_positions: &'a mut [i64],
+    pub bank_positions: &'a mut [i64],
+}
+
+impl<'a> BookMut<'a> {
+    // The same, to be read.
+    pub fn view(&self) -> BookRef<'_>
+        ensures { ledger_of result ≡ ledger_in self.now }
+    {
+        BookRef {
+            header: self.header,
+            mandates: self.mandates,
+            collections: self.collections,
+            creditors: self.creditors,
+            creditor_positions: self.creditor_positions,
+            debtor_positions: self.debtor_positions,
+            bank_positions: self.bank_positions,
+        }
+    }
+}
+
+#[derive(Clone, Copy, Debug, PartialEq, Eq)]
 pub enum Standing {
     Live,
     Closed,
@@ -40,7 +83,7 @@ pub struct Mandate {
     pub presented: u64,
 }
 
-#[derive(Clone, Copy)]
+#[derive(Clone, Copy, Debug, PartialEq, Eq)]
 pub enum Undoing {
     Return,
     Refund,
@@ -48,7 +91,7 @@ pub enum Undoing {
 }
 
 // The state of a collection, with its day.
-#[derive(Clone, Copy)]
+#[derive(Clone, Copy, Debug, PartialEq, Eq)]
 pub enum State {
     Presented,
     Rejected,
@@ -68,4 +111,3 @@ pub struct Collection {
     pub due: u64,
     pub state: State,
 }
-

@@ -4,14 +4,13 @@ ghost use Rattle.common.specs.Walk.{first_from};
 ghost use Rattle.tables.specs.Lookup.{number_is, existing, lookup, lookup_since};
 ghost use Rattle.tables.specs.Rows.{rows};
 
-use crate::rows::STRIDE;
+use crate::rows::{STRIDE, rows_of};
 
 // The used rows that there are.
 pub fn existing_of(cells: &[u64], used: usize) -> usize
     ensures { result ≡ existing cells.now used }
 {
-    let rows = cells.len() / STRIDE;
-    if used < rows { used } else { rows }
+    used.min(rows_of(cells))
 }
 
 // Whether one of the four rows from a row on has the number.
@@ -47,12 +46,10 @@ fn find_from(cells: &[u64], from: usize, n: usize, number: u64) -> Option<usize>
     requires { n ≤ rows cells.now }
     ensures { result ≡ first_from (number_is cells.now number) Some None from (n - from) }
 {
-    let mut i = from;
-    while i < n {
+    for i in from..n {
         if cells[i * STRIDE] == number {
             return Some(i);
         }
-        i += 1;
     }
     None
 }

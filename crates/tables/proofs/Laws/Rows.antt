@@ -14,6 +14,9 @@ use borrow.Author.Tests.{ltb-true, ltb-false, lt-ltb, le-ltb}
 use lib.Dec.{ltb}
 use lib.ListN.{length, get_or, set, take, drop, length-set, length-take, length-drop, drop_of_length-le}
 use lib.Seq.{sets, length-sets, get_or-set_same, get_or-set_other, get_or-take, get_or-drop, drop-cons, ext_get_or}
+use borrow.Rule.Slice.PartMut.{put_mid, Post-is}
+use Rattle.std.proofs.Common.{append_assoc, ◌++◌}
+use Rattle.std.proofs.lemmas.List.Edits.{sets-eq}
 use Rattle.common.proofs.Tests.{true_or_false}
 use Rattle.tables.specs.declared.Mandate.{Mandate}
 use Rattle.tables.specs.declared.Collection.{Collection}
@@ -125,6 +128,22 @@ module _ (w : ℕ) (cells : List ℕ) (row : ℕ) (fields : List ℕ) where
   pub put_nowhere : rows_of w cells ≤ row → put_row w cells row fields ≡ cells
   unfolding put_row
   put_nowhere h = rw (le-ltb row (rows_of w cells) h)
+
+  -- a row that is written over as a part of the table
+  pub put_part :
+      (new : List ℕ) → 0 < w → row < rows_of w cells → new ≡ fields → length new ≡ length (take (row * w + w - row * w) (drop (row * w) cells))
+      → put_mid (row * w) (row * w + w - row * w) cells new ≡ put_row w cells row fields
+  put_part new p h e n =
+      let room = row_room w cells row p h in
+      let q : row * w + w - row * w ≡ w = omega arith in
+      let k : length new ≡ w = n ∙ ap (λ (m : ℕ). length (take m (drop (row * w) cells))) q ∙ length-take w (drop (row * w) cells) ∙ omega (arith, length-drop (row * w) cells) in
+      let m : row * w + length fields ≡ row * w + w = ap (λ (x : ℕ). row * w + x) (sym (ap length e) ∙ k) in
+      ap (λ (z : List ℕ). take (row * w) cells ++ (new ++ z)) (Post-is (row * w) (row * w + w) cells (omega arith))
+      ∙ ap (λ (z : List ℕ). take (row * w) cells ++ (z ++ drop (row * w + w) cells)) e
+      ∙ sym (append_assoc (take (row * w) cells) fields (drop (row * w + w) cells))
+      ∙ ap (λ (x : ℕ). (take (row * w) cells ++ fields) ++ drop x cells) (sym m)
+      ∙ sym (sets-eq fields cells (row * w) (omega (arith, m, room)))
+      ∙ sym (put_there h)
 
   by_place :
       (P : List ℕ → Type 0) → (row < rows_of w cells → P (sets cells (row * w) fields)) → P cells
