@@ -2,12 +2,9 @@
 -- on. Assumes nothing.
 use Rattle.common.proofs.Walk.{first_from_hit, first_from_miss, first_from_end}
 use borrow.Author.Tests.{eq-eqb, ne_eqb}
-use mathlib.Core.Path.{refl, sym, ◌∙◌}
+use mathlib.Core.Path.{sym, ◌∙◌}
 use borrow.Author.Rules.{rules}
 use Rattle.tables.proofs.lookup.find_from.Goals as goal
-
-pub loop-i-init : goal.loop-i-init
-loop-i-init c = refl
 
 pub returns-then-cells-i : goal.returns-then-cells-i
 returns-then-cells-i c = sym (first_from_hit _ _ _ _ _ (search rules) (eq-eqb _ _ c.if-cells-i.true)) ∙ c.loop-i.invariant

