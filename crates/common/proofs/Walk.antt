@@ -7,6 +7,10 @@ use mathlib.Core.Logic.{⊎_elim}
 use Prim.Native.Nat.{ℕ, zero, suc, ◌+◌, ◌-◌, ◌≤◌, ◌<◌}
 use native.Mathlib.Nat.{add-zero, eq-or-lt_of_le}
 use native.Mathlib.Omega.{arith}
+use native.Mathlib.Numerals.{add-one}
+use Rattle.std.specs.Prelude.{◌&&◌, List, [], ◌∷◌}
+use Rattle.std.specs.List.{list_all, range_with_len, zip}
+use Rattle.std.proofs.Common.{get_or, length}
 use Rattle.common.specs.Walk.{all_from, first_from}
 use Rattle.common.proofs.Tests.{never, true_or_false}
 
@@ -137,3 +141,38 @@ unfolding first_from
 first_from_through f t hit miss i zero = refl
 first_from_through f t hit miss i (suc left) =
     ⊎_elim (λ q. rw q) (λ q. rw q (first_from_through f t hit miss (i + 1) left)) (true_or_false (t i))
+
+-- ---- a list tested from its first element on, as `all` of an iterator does
+
+both : (b c : Bool) → (b && c) ≡ cond b c false
+both true c = refl
+both false c = refl
+
+-- over the numbers of a range
+pub all_of_range : (t : ℕ → Bool) (i n : ℕ) → list_all t (range_with_len i n) ≡ all_from t i n
+unfolding all_from
+all_of_range t i zero = refl
+all_of_range t i (suc n) = rw (all_of_range t (i + 1) n, both)
+
+shifted : (t : ℕ → Bool) (i n : ℕ) → all_from (λ k. t (suc k)) i n ≡ all_from t (suc i) n
+unfolding all_from
+shifted t i zero = refl
+shifted t i (suc n) = rw (shifted t (i + 1) n, add-one i, add-one (suc i))
+
+-- over the elements of a list, each at its index
+pub all_of_list : {A : Type 0} (t : A → Bool) (d : A) (xs : List A) → list_all t xs ≡ all_from (λ k. t (get_or xs k d)) 0 (length xs)
+unfolding all_from
+all_of_list t d [] = refl
+all_of_list t d (x ∷ xs) =
+    rw (all_of_list t d xs, both, shifted (λ k. t (get_or (x ∷ xs) k d)) 0 (length xs))
+
+-- over the pairs of two lists, of which the second is not the shorter
+pub all_of_zip :
+    {A B : Type 0} (t : A → B → Bool) (d : A) (e : B) (xs : List A) (ys : List B)
+    → length xs ≤ length ys
+    → list_all (λ (p : A × B). t p.0 p.1) (zip xs ys) ≡ all_from (λ k. t (get_or xs k d) (get_or ys k e)) 0 (length xs)
+unfolding all_from
+all_of_zip t d e [] ys h = refl
+all_of_zip t d e (x ∷ xs) [] h = absurd (omega arith)
+all_of_zip t d e (x ∷ xs) (y ∷ ys) h =
+    rw (all_of_zip t d e xs ys (omega arith), both, shifted (λ k. t (get_or (x ∷ xs) k d) (get_or (y ∷ ys) k e)) 0 (length xs))

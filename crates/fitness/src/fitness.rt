@@ -3,14 +3,17 @@ ghost use Rattle.std.specs.Prelude.{◌≡◌, ◌≤◌, ◌<◌, length};
 ghost use Rattle.common.specs.Tests.{all_of};
 ghost use Rattle.tables.specs.Limits.{stride};
 ghost use Rattle.tables.specs.Rows.{rows};
-ghost use Rattle.tables.specs.Ledger.{ledger};
-ghost use Rattle.fitness.specs.Fitness.{none_or_date, position_fit, compensation_fit, is_zero, row_count_fit, sizes_of, header_of, row_fit, rows_fit, named_tests, mandate_fit, day_fit, collection_fit, creditor_fit, creditors_fit, positions_fit, fit};
+ghost use Rattle.tables.specs.Ledger.{ledger_of};
+ghost use Rattle.fitness.specs.Fitness.{none_or_date, position_fit, compensation_fit, row_count_fit, sizes_of, header_of, row_fit, rows_fit, named_tests, mandate_fit, day_fit, collection_fit, creditor_fit, creditors_fit, positions_fit, fit};
 
 use calendar::gregorian::in_range;
-use common::{AMOUNT_LIMIT, BANKS, COLLECTION_ROWS, CREDITORS, DEBTORS, MANDATE_ROWS, NUMBER_LIMIT, POSITION_LIMIT};
+use common::{
+    AMOUNT_LIMIT, BANKS, COLLECTION_ROWS, CREDITORS, DEBTORS, MANDATE_ROWS, NUMBER_LIMIT,
+    POSITION_LIMIT,
+};
 use tables::creditors::is_added;
-use tables::rows::STRIDE;
-use tables::{Header, collection_column, mandate_column};
+use tables::rows::{STRIDE, rows_of};
+use tables::{BookRef, Header, collection_column, mandate_column};
 
 fn none_or_date(x: u64) -> bool
     ensures { result ≡ none_or_date x }
@@ -30,20 +33,15 @@ fn compensation_fit(z: i64) -> bool
     (0 <= z) & (z <= POSITION_LIMIT)
 }
 
-fn is_zero(z: i64) -> bool
-    ensures { result ≡ is_zero z }
-{
-    (0 <= z) & (z <= 0)
-}
-
 fn row_count_fit(cells: &[u64], most: usize) -> bool
     ensures { result ≡ row_count_fit most cells.now }
 {
-    let n = cells.len() / STRIDE;
+    let n = rows_of(cells);
     (cells.len() % STRIDE == 0) & (1 <= n) & (n <= most)
 }
 
 // Row counts and table sizes, all that the opening looks at.
+#[tactic(auto, unfolding(crate::specs::Fitness::sizes_of))]
 pub fn sizes_fit(
     mandates: &[u64],
     collections: &[u64],
@@ -62,11 +60,12 @@ pub fn sizes_fit(
         & (bank_positions.len() == BANKS as usize)
 }
 
+#[tactic(auto, unfolding(crate::specs::Fitness::header_of))]
 fn header_fit(header: Header, mandates: &[u64], collections: &[u64]) -> bool
     ensures { result ≡ header_of header.latest header.mandates header.collections header.compensation mandates.now collections.now }
 {
-    (header.mandates <= mandates.len() / STRIDE)
-        & (header.collections <= collections.len() / STRIDE)
+    (header.mandates <= rows_of(mandates))
+        & (header.collections <= rows_of(collections))
         & none_or_date(header.latest)
         & compensation_fit(header.compensation)
 }
@@ -82,6 +81,7 @@ fn named_fit(creditors: &[u64], number: u64, creditor: u64, debtor: u64) -> bool
 }
 
 // The cells of one mandate row.
+#[tactic(auto, unfolding(crate::specs::Fitness::mandate_fit))]
 fn mandate_fit(creditors: &[u64], fields: &[u64]) -> bool
     requires { length fields.now ≡ stride }
     ensures { result ≡ mandate_fit creditors.now fields.now }
@@ -112,27 +112,18 @@ fn mandates_fit(creditors: &[u64], cells: &[u64], used: usize) -> bool
     requires { used ≤ rows cells.now }
     ensures { result ≡ rows_fit (mandate_fit creditors.now) cells.now used }
 {
-    let mut i: usize = 0;
-    while i < used {
-        if !mandate_row_fit(creditors, cells, i) {
-            return false;
-        }
-        i += 1;
-    }
-    true
+    (0..used).all(|row| mandate_row_fit(creditors, cells, row))
 }
 
 // The day of a state, by its tag; it is looked at in a settled or undone row alone.
 fn day_fit(latest: u64, tag: u64, day: u64) -> bool
     ensures { result ≡ day_fit latest tag day }
 {
-    if tag <= 1 {
-        return true;
-    }
-    in_range(day) & (day <= latest)
+    (tag <= 1) || (in_range(day) & (day <= latest))
 }
 
 // The cells of one collection row.
+#[tactic(auto, unfolding(crate::specs::Fitness::collection_fit))]
 fn collection_fit(latest: u64, creditors: &[u64], fields: &[u64]) -> bool
     requires { length fields.now ≡ stride }
     ensures { result ≡ collection_fit latest creditors.now fields.now }
@@ -166,78 +157,54 @@ fn collections_fit(latest: u64, creditors: &[u64], cells: &[u64], used: usize) -
     requires { used ≤ rows cells.now }
     ensures { result ≡ rows_fit (collection_fit latest creditors.now) cells.now used }
 {
-    let mut i: usize = 0;
-    while i < used {
-        if !collection_row_fit(latest, creditors, cells, i) {
-            return false;
-        }
-        i += 1;
-    }
-    true
+    (0..used).all(|row| collection_row_fit(latest, creditors, cells, row))
 }
 
 // One creditor's bank and position.
+#[tactic(auto, unfolding(crate::specs::Fitness::creditor_fit))]
 fn creditor_fit(bank: u64, position: i64) -> bool
     ensures { result ≡ creditor_fit bank position }
 {
-    (bank <= BANKS) & position_fit(position) & ((1 <= bank) | is_zero(position))
+    (bank <= BANKS) & position_fit(position) & ((1 <= bank) | (position == 0))
 }
 
 fn creditors_fit(creditors: &[u64], positions: &[i64]) -> bool
     requires { length creditors.now ≤ length positions.now }
     ensures { result ≡ creditors_fit creditors.now positions.now }
 {
-    let mut i: usize = 0;
-    while i < creditors.len() {
-        if !creditor_fit(creditors[i], positions[i]) {
-            return false;
-        }
-        i += 1;
-    }
-    true
+    creditors
+        .iter()
+        .zip(positions)
+        .all(|(bank, position)| creditor_fit(*bank, *position))
 }
 
 fn positions_fit(positions: &[i64]) -> bool
     ensures { result ≡ positions_fit positions.now }
 {
-    let mut i: usize = 0;
-    while i < positions.len() {
-        if !position_fit(positions[i]) {
-            return false;
-        }
-        i += 1;
-    }
-    true
+    positions.iter().all(|z| position_fit(*z))
 }
 
 // Whether lent memory is fit, for any content and any sizes.
-pub fn is_fit(
-    header: Header,
-    mandates: &[u64],
-    collections: &[u64],
-    creditors: &[u64],
-    creditor_positions: &[i64],
-    debtor_positions: &[i64],
-    bank_positions: &[i64],
-) -> bool
-    ensures { result ≡ fit (ledger header mandates.now collections.now creditors.now creditor_positions.now debtor_positions.now bank_positions.now) }
+pub fn is_fit(book: &BookRef) -> bool
+    ensures { result ≡ fit (ledger_of book.now) }
 {
     if !sizes_fit(
-        mandates,
-        collections,
-        creditors,
-        creditor_positions,
-        debtor_positions,
-        bank_positions,
+        book.mandates,
+        book.collections,
+        book.creditors,
+        book.creditor_positions,
+        book.debtor_positions,
+        book.bank_positions,
     ) {
         return false;
     }
-    if !header_fit(header, mandates, collections) {
+    if !header_fit(book.header, book.mandates, book.collections) {
         return false;
     }
-    mandates_fit(creditors, mandates, header.mandates)
-        & collections_fit(header.latest, creditors, collections, header.collections)
-        & creditors_fit(creditors, creditor_positions)
-        & positions_fit(debtor_positions)
-        & positions_fit(bank_positions)
+    let header = book.header;
+    mandates_fit(book.creditors, book.mandates, header.mandates)
+        & collections_fit(header.latest, book.creditors, book.collections, header.collections)
+        & creditors_fit(book.creditors, book.creditor_positions)
+        & positions_fit(book.debtor_positions)
+        & positions_fit(book.bank_positions)
 }

@@ -1,33 +1,14 @@
--- `fitness::creditors_fit` meets its contract. The loop: the entries from i on pass where all entries do.
--- Assumes nothing.
-use mir.Syntax.{w64}
-use Rattle.fitness.specs.Fitness.{creditors_fit, creditor_fit}
-use Rattle.common.proofs.Walk.{all_left, all_from_hit, all_from_miss, all_from_end}
-use mir.Facts.{to_z-of_z}
-use lib.IntN.{ℤ, pos}
-use lib.ListN.{get_or}
-use mathlib.Core.Path.{sym, ◌∙◌, ap}
-use borrow.Author.Rules.{rules}
+use Rattle.std.proofs.Common.{ℕ, ℤ, rules, ◌∙◌, pos}
+use borrow.Author.Tests.{tests}
+use Rattle.std.proofs.lemmas.Iterator.{YieldsList-from_slice, YieldsList-from_zip}
+use Rattle.std.proofs.lemmas.Iterator.Search.{all_from_yields_List}
+use Rattle.common.proofs.Walk.{all_of_zip}
+use Rattle.fitness.specs.Fitness.{creditor_fit, creditors_fit}
 use Rattle.fitness.proofs.fitness.creditors_fit.Goals as goal
 
-pub loop-i-init : goal.loop-i-init
-unfolding creditors_fit
-loop-i-init c = (search rules, search rules, rw all_left)
-
-pub returns-then-not-creditor_fit : goal.returns-then-not-creditor_fit
-returns-then-not-creditor_fit c =
-    let back = to_z-of_z {w = w64} {z = get_or c.args.positions.now c.loop-i.i (pos 0)} (record { sfits = c.creditor_fit-arg-1.given }) in
-    sym
-    (sym c.loop-i.invariant.2
-    ∙ all_from_miss _ _ _ (search rules) (sym (c.creditor_fit.ensures ∙ ap (λ (z : ℤ). creditor_fit (get_or c.args.creditors.now c.loop-i.i 0) z) back) ∙ c.if-not-creditor_fit.true))
-
-pub loop-i-preserved : goal.loop-i-preserved
-loop-i-preserved c =
-    let back = to_z-of_z {w = w64} {z = get_or c.args.positions.now c.loop-i.i (pos 0)} (record { sfits = c.creditor_fit-arg-1.given }) in (
-      search rules,
-      search rules,
-      sym (all_from_hit _ _ _ (search rules) (sym (c.creditor_fit.ensures ∙ ap (λ (z : ℤ). creditor_fit (get_or c.args.creditors.now c.loop-i.i 0) z) back) ∙ c.if-not-creditor_fit.false)) ∙ c.loop-i.invariant.2,
-    )
-
 pub returns : goal.returns
-returns c = sym (all_from_end _ _ _ (search rules)) ∙ c.loop-i.invariant.2
+unfolding creditors_fit
+returns c =
+    let a = c.args in
+    all_from_yields_List (λ (p : ℕ × ℤ). creditor_fit p.0 p.1) c.all.new.self _ c.all.result c.all.ensures.ran (YieldsList-from_zip (YieldsList-from_slice a.creditors.now cc) (YieldsList-from_slice a.positions.now cc)) (λ x b q k. search (rules, tests))
+    ∙ all_of_zip creditor_fit 0 (pos 0) a.creditors.now a.positions.now c.requires

@@ -1,7 +1,7 @@
 -- `fitness::is_fit` meets its contract: sizes first, then the header, then each table. Assumes nothing.
 use Rattle.fitness.proofs.Laws.Fitness.{sizes_facts, header_facts, fit_no_sizes, fit_no_header, fit_contents}
 use Rattle.fitness.specs.Fitness.{sizes_fit, header_fit}
-use Rattle.tables.specs.Ledger.{Ledger, ledger}
+use Rattle.tables.specs.Ledger.{ledger_of}
 use native.Mathlib.Omega.{arith}
 use mathlib.Core.Bool.{true}
 use mathlib.Core.Path.{◌≡◌, sym, ◌∙◌}
@@ -9,79 +9,37 @@ use Rattle.fitness.proofs.fitness.is_fit.Goals as goal
 
 pub returns-then-not-sizes_fit : goal.returns-then-not-sizes_fit
 returns-then-not-sizes_fit c =
-    let book : Ledger = ledger
-    c.args.header
-    c.args.mandates.now
-    c.args.collections.now
-    c.args.creditors.now
-    c.args.creditor_positions.now
-    c.args.debtor_positions.now
-    c.args.bank_positions.now in
+    let book = ledger_of c.args.book.now in
     sym (fit_no_sizes book (sym c.sizes_fit.ensures ∙ c.if-not-sizes_fit.true))
 
 pub returns-then-not-header_fit : goal.returns-then-not-header_fit
 returns-then-not-header_fit c =
-    let book : Ledger = ledger
-    c.args.header
-    c.args.mandates.now
-    c.args.collections.now
-    c.args.creditors.now
-    c.args.creditor_positions.now
-    c.args.debtor_positions.now
-    c.args.bank_positions.now in
+    let book = ledger_of c.args.book.now in
     let sizes : sizes_fit book ≡ true = sym c.sizes_fit.ensures ∙ c.if-not-sizes_fit.false in
     sym (fit_no_header book sizes (sym c.header_fit.ensures ∙ c.if-not-header_fit.true))
 
 pub mandates_fit-requires : goal.mandates_fit-requires
 mandates_fit-requires c =
-    let book : Ledger = ledger
-    c.args.header
-    c.args.mandates.now
-    c.args.collections.now
-    c.args.creditors.now
-    c.args.creditor_positions.now
-    c.args.debtor_positions.now
-    c.args.bank_positions.now in
+    let book = ledger_of c.args.book.now in
     let header : header_fit book ≡ true = sym c.header_fit.ensures ∙ c.if-not-header_fit.false in
     (header_facts book header).mandates_lent
 
 pub collections_fit-requires : goal.collections_fit-requires
 collections_fit-requires c =
-    let book : Ledger = ledger
-    c.args.header
-    c.args.mandates.now
-    c.args.collections.now
-    c.args.creditors.now
-    c.args.creditor_positions.now
-    c.args.debtor_positions.now
-    c.args.bank_positions.now in
+    let book = ledger_of c.args.book.now in
     let header : header_fit book ≡ true = sym c.header_fit.ensures ∙ c.if-not-header_fit.false in
     (header_facts book header).collections_lent
 
 pub creditors_fit-requires : goal.creditors_fit-requires
 creditors_fit-requires c =
-    let book : Ledger = ledger
-    c.args.header
-    c.args.mandates.now
-    c.args.collections.now
-    c.args.creditors.now
-    c.args.creditor_positions.now
-    c.args.debtor_positions.now
-    c.args.bank_positions.now in
+    let book = ledger_of c.args.book.now in
     let sizes : sizes_fit book ≡ true = sym c.sizes_fit.ensures ∙ c.if-not-sizes_fit.false in
     let s = sizes_facts book sizes in
     omega (arith, s.creditor_table, s.creditor_positions_lem)
 
 pub returns : goal.returns
 returns c =
-    let book : Ledger = ledger
-    c.args.header
-    c.args.mandates.now
-    c.args.collections.now
-    c.args.creditors.now
-    c.args.creditor_positions.now
-    c.args.debtor_positions.now
-    c.args.bank_positions.now in
+    let book = ledger_of c.args.book.now in
     let sizes : sizes_fit book ≡ true = sym c.sizes_fit.ensures ∙ c.if-not-sizes_fit.false in
     let header : header_fit book ≡ true = sym c.header_fit.ensures ∙ c.if-not-header_fit.false in
     rw (

@@ -1,27 +1,13 @@
--- `fitness::mandates_fit` meets its contract. The loop: the rows from i on pass where all rows do.
--- Assumes nothing.
-use Rattle.fitness.specs.Fitness.{rows_fit}
-use Rattle.common.proofs.Walk.{all_left, all_from_hit, all_from_miss, all_from_end}
-use mathlib.Core.Path.{sym, ◌∙◌}
-use borrow.Author.Rules.{rules}
+use Rattle.std.proofs.Common.{rules, arith, ◌∙◌, refl}
+use borrow.Author.Tests.{tests}
+use Rattle.std.proofs.lemmas.Iterator.{YieldsList-from_range}
+use Rattle.std.proofs.lemmas.Iterator.Search.{all_from_yields_List}
+use Rattle.common.proofs.Walk.{all_of_range}
+use Rattle.fitness.specs.Fitness.{row_fit, rows_fit, mandate_fit}
 use Rattle.fitness.proofs.fitness.mandates_fit.Goals as goal
 
-pub loop-i-init : goal.loop-i-init
-unfolding rows_fit
-loop-i-init c = (search rules, search rules, rw all_left)
-
-pub returns-then-not-mandate_row_fit : goal.returns-then-not-mandate_row_fit
-returns-then-not-mandate_row_fit c =
-    sym
-    (sym c.loop-i.invariant.2
-    ∙ all_from_miss _ _ _ (search rules) (sym c.mandate_row_fit.ensures ∙ c.if-not-mandate_row_fit.true))
-
-pub loop-i-preserved : goal.loop-i-preserved
-loop-i-preserved c = (
-  search rules,
-  search rules,
-  sym (all_from_hit _ _ _ (search rules) (sym c.mandate_row_fit.ensures ∙ c.if-not-mandate_row_fit.false)) ∙ c.loop-i.invariant.2,
-)
-
 pub returns : goal.returns
-returns c = sym (all_from_end _ _ _ (search rules)) ∙ c.loop-i.invariant.2
+unfolding rows_fit
+returns c =
+    let fits = row_fit (mandate_fit c.args.creditors.now) c.args.cells.now in
+    all_from_yields_List fits _ _ c.all.result c.all.ensures.ran (YieldsList-from_range 0 c.args.used c.args.used refl (omega arith)) (λ x b q k. search (rules, tests)) ∙ all_of_range fits 0 c.args.used
