@@ -1,5 +1,5 @@
 -- Laws of specs/Opening: what is answered, and that an opened ledger is fit. To cite: `opening_done`, `opening_refused`,
--- `opened_fit`, `opened_mandates`, `opened_collections`; for the loops that clear a table `cleared_step`, `cleared_end`. Assumes nothing.
+-- `opened_fit`, `opened_mandates`, `opened_collections`. Assumes nothing.
 use mathlib.Core.Path.{◌≡◌, refl, sym, ◌∙◌, ap}
 use mathlib.Core.Bool.{true, false}
 use mathlib.Core.List.{List}
@@ -10,32 +10,13 @@ use borrow.Author.Tests.{eqb-true, eqb-false}
 use lib.Dec.{eqb}
 use lib.ListN.{length, get_or, set, replicate, length-replicate, get_or-replicate}
 use lib.Seq.{get_or-set_same, get_or-set_other, ext_get_or}
-use lib.IntN.{pos}
+use lib.IntN.{ℤ, pos}
 use Rattle.common.proofs.Tests.{true_or_false}
 use Rattle.tables.specs.Limits.{creditor_count, debtor_count, bank_count}
-use Rattle.tables.specs.Ledger.{Ledger}
+use Rattle.tables.specs.Ledger.{Ledger, ledger}
 use Rattle.fitness.specs.Fitness.{position_fit, sizes_fit, mandate_fit, collection_fit, creditor_fit, creditors_fit, positions_fit, fit}
 use Rattle.opening.specs.Opening.{fresh, open_result, opened, opening}
 use Rattle.fitness.proofs.Laws.Fitness.{Sizes, sizes_facts, HeaderFit, rows_fit_made, creditors_fit_made, positions_fit_made, fit_made}
-
--- ---- a table cleared entry by entry, over the type of its entries
-
--- the first i entries are d
-abbrev pub ClearedTo : {A : Type 0} → A → List A → ℕ → Type 0
-ClearedTo d l i = (k : ℕ) → k < i → get_or l k d ≡ d
-
-module _ {A : Type 0} (d : A) (l : List A) where
-  pub cleared_step : (i : ℕ) → i < length l → ClearedTo d l i → ClearedTo d (set l i d) (i + 1)
-  cleared_step i h f k lt =
-      ⊎_elim
-      (λ e. let p = eqb-true k i e in rw p (get_or-set_same l i d d h))
-      (λ e. let ne = eqb-false k i e in get_or-set_other l i k d d ne ∙ f k (omega (arith, ne)))
-      (true_or_false (eqb k i))
-
-  pub cleared_end : (n : ℕ) → length l ≡ n → ClearedTo d l n → l ≡ replicate n d
-  cleared_end n e f =
-      ext_get_or d l (replicate n d) (e ∙ sym (length-replicate n d))
-      (λ i h. let g : i < n = rw e at h in f i g ∙ sym (get_or-replicate n i d d g))
 
 -- ---- tables of zeros
 
@@ -65,6 +46,19 @@ module _ (l : Ledger) where
   pub opening_done : sizes_fit l ≡ true → opening l ≡ open_result 0 (fresh l)
   unfolding opening opened
   opening_done e = rw e
+
+  -- tables filled with zeros, under a header of zeros, are the fresh ledger's
+  pub opening_filled :
+      (cr : List ℕ) (cp dp bp : List ℤ) → sizes_fit l ≡ true
+      → cr ≡ replicate (length l.creditors) 0
+      → cp ≡ replicate (length l.creditor_positions) (pos 0)
+      → dp ≡ replicate (length l.debtor_positions) (pos 0)
+      → bp ≡ replicate (length l.bank_positions) (pos 0)
+      → open_result 0 (ledger (record { latest = 0; mandates = 0; collections = 0; compensation = pos 0 }) l.mandates l.collections cr cp dp bp) ≡ opening l
+  unfolding fresh
+  opening_filled cr cp dp bp e creditors own debtors banks =
+      let s = sizes_facts l e in
+      rw (opening_done e, creditors, own, debtors, banks, s.creditor_table, s.creditor_positions_lem, s.debtor_positions_lem, s.bank_positions_lem)
 
   pub opened_done : sizes_fit l ≡ true → opened l ≡ fresh l
   unfolding opened
