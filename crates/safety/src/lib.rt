@@ -4,7 +4,7 @@
 
 ghost use Rattle.std.specs.Prelude.{◌≡◌, ◌≤◌, ◌<◌};
 ghost use Rattle.common.specs.Limits.{collection_row_limit};
-ghost use Rattle.tables.specs.Ledger.{ledger};
+ghost use Rattle.tables.specs.Ledger.{ledger_of};
 ghost use Rattle.tables.specs.Rows.{rows};
 ghost use Rattle.model.specs.Bounds.{sum_rows, moved_at};
 ghost use Rattle.safety.specs.Safety.{tag_moved, between, all_between, is_safe};
@@ -13,7 +13,7 @@ use common::AMOUNT_LIMIT;
 use fitness::fitness::is_fit;
 use positions::COMPENSATION_LIMIT;
 use tables::rows::STRIDE;
-use tables::{Header, collection_column};
+use tables::{BookRef, collection_column};
 
 // What one row moves a position by at most: an amount when settled, an amount and its compensation when undone.
 const ROW_MOVE: u64 = AMOUNT_LIMIT + (AMOUNT_LIMIT + COMPENSATION_LIMIT);
@@ -22,13 +22,11 @@ const ROW_MOVE: u64 = AMOUNT_LIMIT + (AMOUNT_LIMIT + COMPENSATION_LIMIT);
 fn tag_moved(tag: u64) -> u64
     ensures { result ≡ tag_moved tag }
 {
-    if tag <= 1 {
-        return 0;
+    match tag {
+        0 | 1 => 0,
+        2 => AMOUNT_LIMIT,
+        _ => ROW_MOVE,
     }
-    if tag <= 2 {
-        return AMOUNT_LIMIT;
-    }
-    ROW_MOVE
 }
 
 // What the used rows have moved at most.
@@ -36,11 +34,9 @@ fn sum_moved(cells: &[u64], used: usize) -> u64
     requires { (used ≤ rows cells.now) × (used ≤ collection_row_limit) }
     ensures { result ≡ sum_rows (moved_at cells.now) used }
 {
-    let mut sum: u64 = 0;
-    let mut i: usize = 0;
-    while i < used {
-        sum += tag_moved(cells[i * STRIDE + collection_column::STATE]);
-        i += 1;
+    let mut sum = 0;
+    for row in 0..used {
+        sum += tag_moved(cells[row * STRIDE + collection_column::STATE]);
     }
     sum
 }
@@ -54,43 +50,21 @@ fn is_between(low: i64, high: i64, z: i64) -> bool
 fn all_between(low: i64, high: i64, positions: &[i64]) -> bool
     ensures { result ≡ all_between low high positions.now }
 {
-    let mut i: usize = 0;
-    while i < positions.len() {
-        if !is_between(low, high, positions[i]) {
-            return false;
-        }
-        i += 1;
-    }
-    true
+    positions.iter().all(|z| is_between(low, high, *z))
 }
 
 // Whether lent memory is safe, for any content and any sizes.
-pub fn is_safe(
-    header: Header,
-    mandates: &[u64],
-    collections: &[u64],
-    creditors: &[u64],
-    creditor_positions: &[i64],
-    debtor_positions: &[i64],
-    bank_positions: &[i64],
-) -> bool
-    ensures { result ≡ is_safe (ledger header mandates.now collections.now creditors.now creditor_positions.now debtor_positions.now bank_positions.now) }
+pub fn is_safe(book: &BookRef) -> bool
+    ensures { result ≡ is_safe (ledger_of book.now) }
 {
-    if !is_fit(
-        header,
-        mandates,
-        collections,
-        creditors,
-        creditor_positions,
-        debtor_positions,
-        bank_positions,
-    ) {
+    if !is_fit(book) {
         return false;
     }
-    let high = sum_moved(collections, header.collections) as i64;
+    let header = book.header;
+    let high = sum_moved(book.collections, header.collections) as i64;
     let low = -high;
-    all_between(low, high, creditor_positions)
-        & all_between(low, high, debtor_positions)
-        & all_between(low, high, bank_positions)
+    all_between(low, high, book.creditor_positions)
+        & all_between(low, high, book.debtor_positions)
+        & all_between(low, high, book.bank_positions)
         & is_between(low, high, header.compensation)
 }

@@ -1,4 +1,5 @@
 -- `safety::is_safe` meets its contract: fitness first, then the sum of the rows, then each table. Assumes nothing.
+use Rattle.std.proofs.Common.{rules}
 use mir.Syntax.{w64}
 use mir.Val.{to_z, of_z}
 use mir.Facts.{to_z-of_z}
@@ -8,7 +9,7 @@ use Prim.Native.Nat.{ℕ, ◌^◌, ◌<◌}
 use lib.IntN.{pos, neg_ℤ, ◌-ℤ◌}
 use Rattle.positions.proofs.Laws.Integers.{size_fits, bits_small, minus_small, minus_small_fits}
 use Rattle.fitness.specs.Fitness.{fit}
-use Rattle.tables.specs.Ledger.{Ledger, ledger}
+use Rattle.tables.specs.Ledger.{ledger_of}
 use Rattle.model.specs.Bounds.{spent}
 use Rattle.safety.specs.Safety.{between}
 use Rattle.safety.proofs.Laws.Safety.{unfit_unsafe, fit_bounded, bounded_tested, fit_rows, spent_small, spent_is}
@@ -16,39 +17,18 @@ use Rattle.safety.proofs.is_safe.Goals as goal
 
 pub returns-then-not-is_fit : goal.returns-then-not-is_fit
 returns-then-not-is_fit c =
-    let book : Ledger = ledger
-    c.args.header
-    c.args.mandates.now
-    c.args.collections.now
-    c.args.creditors.now
-    c.args.creditor_positions.now
-    c.args.debtor_positions.now
-    c.args.bank_positions.now in
+    let book = ledger_of c.args.book.now in
     sym (unfit_unsafe book (sym c.is_fit.ensures ∙ c.if-not-is_fit.true))
 
 pub sum_moved-high-requires : goal.sum_moved-high-requires
 sum_moved-high-requires c =
-    let book : Ledger = ledger
-    c.args.header
-    c.args.mandates.now
-    c.args.collections.now
-    c.args.creditors.now
-    c.args.creditor_positions.now
-    c.args.debtor_positions.now
-    c.args.bank_positions.now in
+    let book = ledger_of c.args.book.now in
     let fitted : fit book ≡ true = sym c.is_fit.ensures ∙ c.if-not-is_fit.false in
     fit_rows book fitted
 
 pub overflow_cast-high : goal.overflow_cast-high
 overflow_cast-high c =
-    let book : Ledger = ledger
-    c.args.header
-    c.args.mandates.now
-    c.args.collections.now
-    c.args.creditors.now
-    c.args.creditor_positions.now
-    c.args.debtor_positions.now
-    c.args.bank_positions.now in
+    let book = ledger_of c.args.book.now in
     let fitted : fit book ≡ true = sym c.is_fit.ensures ∙ c.if-not-is_fit.false in
     let summed : c.sum_moved-high.result ≡ spent book = c.sum_moved-high.ensures ∙ spent_is book in
     let small : c.sum_moved-high.result < 2 ^ 63 = rw summed (spent_small book fitted) in
@@ -56,14 +36,7 @@ overflow_cast-high c =
 
 pub overflow_sub-low : goal.overflow_sub-low
 overflow_sub-low c =
-    let book : Ledger = ledger
-    c.args.header
-    c.args.mandates.now
-    c.args.collections.now
-    c.args.creditors.now
-    c.args.creditor_positions.now
-    c.args.debtor_positions.now
-    c.args.bank_positions.now in
+    let book = ledger_of c.args.book.now in
     let fitted : fit book ≡ true = sym c.is_fit.ensures ∙ c.if-not-is_fit.false in
     let summed : c.sum_moved-high.result ≡ spent book = c.sum_moved-high.ensures ∙ spent_is book in
     let small : c.sum_moved-high.result < 2 ^ 63 = rw summed (spent_small book fitted) in
@@ -71,14 +44,7 @@ overflow_sub-low c =
 
 pub returns : goal.returns
 returns c =
-    let book : Ledger = ledger
-    c.args.header
-    c.args.mandates.now
-    c.args.collections.now
-    c.args.creditors.now
-    c.args.creditor_positions.now
-    c.args.debtor_positions.now
-    c.args.bank_positions.now in
+    let book = ledger_of c.args.book.now in
     let fitted : fit book ≡ true = sym c.is_fit.ensures ∙ c.if-not-is_fit.false in
     let summed : c.sum_moved-high.result ≡ spent book = c.sum_moved-high.ensures ∙ spent_is book in
     let small : c.sum_moved-high.result < 2 ^ 63 = rw summed (spent_small book fitted) in
@@ -88,7 +54,7 @@ returns c =
     let l = book in
     let high = to_z w64 d.sum_moved-high.result in
     let low = to_z w64 (of_z w64 (pos 0 -ℤ high)) in
-    let paid = to_z-of_z {w = w64} {z = l.compensation} (record { sfits = c.struct_told-1.given.1.1.1.0.1 }) in
+    let paid : to_z w64 (of_z w64 l.compensation) ≡ l.compensation = search rules in
     let comp : c.is_between.result ≡ between low high l.compensation = c.is_between.ensures ∙ ap (between low high) paid in
     rw (
       c.all_between.ensures,
