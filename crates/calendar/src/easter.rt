@@ -31,18 +31,12 @@ const EASTER: [u16; 200] = [
     410, 401, 421, 406, 329, 417, 409, 325, 414,
 ];
 
-fn wide(x: u16) -> u64
-    ensures { result ≡ x }
-{
-    x as u64
-}
-
 // Easter Sunday of the year 2000 + k, as MMDD. Only this function reads the table.
 fn easter_in(k: u64) -> u64
     requires { k < 200 }
     ensures { result ≡ month_day (easter_sunday (first_year + k)) }
 {
-    wide(EASTER[k as usize])
+    u64::from(EASTER[k as usize])
 }
 
 // The day, from 0, of the year 2000 + k, with l leap days, that is Easter Sunday.
@@ -71,8 +65,5 @@ pub fn easter_sunday(y: u64) -> Option<u64>
 pub fn easter_day(y: u64) -> Option<u64>
     ensures { result ≡ easter_day_of y }
 {
-    match easter_sunday(y) {
-        Some(x) => gregorian::day_number(x),
-        None => None,
-    }
+    gregorian::day_number(easter_sunday(y)?)
 }

@@ -3,11 +3,10 @@ ghost use Rattle.std.specs.Prelude.{◌≡◌, true, cond, ◌+◌, ◌-◌, ◌
 ghost use Rattle.calendar.specs.Gregorian.{leap, leap_day, month_length, is_date, in_range, first_year, last_year};
 ghost use Rattle.calendar.specs.DayNumber.{days_before, year_start, calendar_days, day_number, day_of, year_at, month_at, date_in, date_at, date_of};
 
-
 // The days before each month, in a year without a leap day.
 const COUNTS: [u64; 12] = [0, 31, 59, 90, 120, 151, 181, 212, 243, 273, 304, 334];
 
-const CALENDAR_DAYS: u64 = 73049;
+pub(crate) const CALENDAR_DAYS: u64 = 73049;
 
 // The days before 2101.
 const DAYS_TO_2101: u64 = 36890;
@@ -16,7 +15,7 @@ const DAYS_TO_2101: u64 = 36890;
 const FOUR_YEARS: u64 = 1461;
 
 // A day by its year, from 2000, and its day of the year, from 0.
-#[derive(Clone, Copy)]
+#[derive(Clone, Copy, Debug, PartialEq, Eq)]
 pub(crate) struct Place {
     pub(crate) year: u64,
     pub(crate) day: u64,
@@ -32,7 +31,7 @@ pub fn is_leap(y: u64) -> bool
 pub fn leap_day(y: u64) -> u64
     ensures { result ≡ leap_day y }
 {
-    if is_leap(y) { 1 } else { 0 }
+    u64::from(is_leap(y))
 }
 
 // The same for a year of the calendar: of those that 4 divides only 2100 is none.
@@ -40,7 +39,7 @@ pub(crate) fn leap_day_in(y: u64) -> u64
     requires { (first_year ≤ y) × (y ≤ last_year) }
     ensures { result ≡ leap_day y }
 {
-    if (y % 4 == 0) & (y != 2100) { 1 } else { 0 }
+    u64::from((y % 4 == 0) & (y != 2100))
 }
 
 // The days of a month of a year with l leap days.
@@ -48,13 +47,11 @@ fn month_length(l: u64, m: u64) -> u64
     requires { l ≤ 1 }
     ensures { result ≡ month_length l m }
 {
-    if m == 2 {
-        return 28 + l;
+    match m {
+        2 => 28 + l,
+        4 | 6 | 9 | 11 => 30,
+        _ => 31,
     }
-    if (m == 4) | (m == 6) | (m == 9) | (m == 11) {
-        return 30;
-    }
-    31
 }
 
 // The last day of the month m of the year y.

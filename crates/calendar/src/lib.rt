@@ -9,19 +9,19 @@ pub mod periods;
 pub mod target;
 
 // A count of calendar days. It is never added to a count of business days.
-#[derive(Clone, Copy)]
+#[derive(Clone, Copy, Debug, PartialEq, Eq)]
 pub struct CalendarDays(pub u64);
 
 // A count of business days.
-#[derive(Clone, Copy)]
+#[derive(Clone, Copy, Debug, PartialEq, Eq)]
 pub struct BusinessDays(pub u64);
 
 // A count of months.
-#[derive(Clone, Copy)]
+#[derive(Clone, Copy, Debug, PartialEq, Eq)]
 pub struct Months(pub u64);
 
 // Months, then calendar days, then business days: the form of every last day and of the lapse of a mandate.
-#[derive(Clone, Copy)]
+#[derive(Clone, Copy, Debug, PartialEq, Eq)]
 pub struct Period {
     pub months: Months,
     pub days: CalendarDays,

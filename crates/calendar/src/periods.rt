@@ -4,48 +4,27 @@ ghost use Rattle.calendar.specs.DayNumber.{calendar_days, date_of};
 ghost use Rattle.calendar.specs.Target.{open_after};
 ghost use Rattle.calendar.specs.Periods.{days_after, days_between, business_days_after, day_of_month_count, months_after, period_end, is_after};
 
+use crate::gregorian::CALENDAR_DAYS;
 use crate::{BusinessDays, CalendarDays, Months, Period, gregorian, target};
-
-const CALENDAR_DAYS: u64 = 73049;
 
 // The months of the years 0 to 2199.
 const MONTHS: u64 = 26400;
-
-// The day n calendar days after the day d.
-fn plus(d: u64, n: u64) -> Option<u64>
-    requires { d < calendar_days }
-    ensures { result ≡ date_of (d + n) }
-{
-    if n < CALENDAR_DAYS - d {
-        return gregorian::date_of(d + n);
-    }
-    None
-}
 
 // The date n calendar days after a date.
 pub fn days_after(x: u64, n: CalendarDays) -> Option<u64>
     ensures { result ≡ days_after n x }
 {
-    match gregorian::day_number(x) {
-        Some(d) => plus(d, n.0),
-        None => None,
-    }
+    let d = gregorian::day_number(x)?;
+    gregorian::date_of(d.checked_add(n.0)?)
 }
 
 // The calendar days from the date x to the date y, which is not before it.
 pub fn days_between(x: u64, y: u64) -> Option<CalendarDays>
     ensures { result ≡ days_between x y }
 {
-    let Some(from) = gregorian::day_number(x) else {
-        return None;
-    };
-    let Some(to) = gregorian::day_number(y) else {
-        return None;
-    };
-    if from <= to {
-        return Some(CalendarDays(to - from));
-    }
-    None
+    let from = gregorian::day_number(x)?;
+    let to = gregorian::day_number(y)?;
+    to.checked_sub(from).map(CalendarDays)
 }
 
 // The n-th business day after the day d.
@@ -54,13 +33,8 @@ fn open_after(d: u64, n: u64) -> Option<u64>
     ensures { result ≡ date_of (open_after n d) }
 {
     let mut at = d;
-    let mut i = 0;
-    while i < n {
-        let Some(next) = target::first_open(at + 1) else {
-            return None;
-        };
-        at = next;
-        i += 1;
+    for _ in 0..n {
+        at = target::first_open(at + 1)?;
     }
     gregorian::date_of(at)
 }
@@ -69,10 +43,7 @@ fn open_after(d: u64, n: u64) -> Option<u64>
 pub fn business_days_after(x: u64, n: BusinessDays) -> Option<u64>
     ensures { result ≡ business_days_after n x }
 {
-    match gregorian::day_number(x) {
-        Some(d) => open_after(d, n.0),
-        None => None,
-    }
+    open_after(gregorian::day_number(x)?, n.0)
 }
 
 // The day d of the month that a count t of months leads to, or that month's last day.
@@ -91,12 +62,12 @@ fn day_of_month(t: u64, d: u64) -> u64
 pub fn months_after(x: u64, n: Months) -> Option<u64>
     ensures { result ≡ months_after n x }
 {
-    let k = n.0;
-    if gregorian::is_date(x) & (k < MONTHS) {
-        let t = x / 10000 * 12 + (x / 100 % 100 - 1) + k;
-        if t < MONTHS {
-            return Some(day_of_month(t, x % 100));
-        }
+    if !gregorian::is_date(x) {
+        return None;
+    }
+    let t = (x / 10000 * 12 + (x / 100 % 100 - 1)).checked_add(n.0)?;
+    if t < MONTHS {
+        return Some(day_of_month(t, x % 100));
     }
     None
 }
@@ -105,9 +76,7 @@ pub fn months_after(x: u64, n: Months) -> Option<u64>
 pub fn period_end(x: u64, p: Period) -> Option<u64>
     ensures { result ≡ period_end p x }
 {
-    let Some(month) = months_after(x, p.months) else {
-        return None;
-    };
+    let month = months_after(x, p.months)?;
     let day = gregorian::number(month);
     let days = p.days.0;
     if days < CALENDAR_DAYS - day {
@@ -120,8 +89,5 @@ pub fn period_end(x: u64, p: Period) -> Option<u64>
 pub fn is_after(x: u64, limit: Option<u64>) -> bool
     ensures { result ≡ is_after x limit }
 {
-    match limit {
-        Some(last) => last < x,
-        None => false,
-    }
+    limit.is_some_and(|last| last < x)
 }

@@ -3,9 +3,8 @@ ghost use Rattle.std.specs.Prelude.{◌≡◌, ◌-◌, ◌<◌};
 ghost use Rattle.calendar.specs.DayNumber.{year_start, calendar_days, year_at, in_calendar};
 ghost use Rattle.calendar.specs.Target.{weekday, business_day, is_open, first_open, last_open_before, answer_date, first_business_day, last_business_day_before};
 
+use crate::gregorian::CALENDAR_DAYS;
 use crate::{easter, gregorian};
-
-const CALENDAR_DAYS: u64 = 73049;
 
 // Whether a day n from Monday to Friday, the day r from 0 of the year 2000 + k, is a business day. The table of
 // Easter is read only for a day from two before 22 March to the one after 25 April.
@@ -28,10 +27,7 @@ fn open_in(k: u64, r: u64, n: u64) -> bool
 pub fn is_business_day(x: u64) -> bool
     ensures { result ≡ business_day x }
 {
-    match gregorian::day_number(x) {
-        Some(n) => is_open(n),
-        None => false,
-    }
+    gregorian::day_number(x).is_some_and(is_open)
 }
 
 // Whether n is the number of a business day.
@@ -52,61 +48,33 @@ pub fn is_open(n: u64) -> bool
 pub fn first_open(n: u64) -> Option<u64>
     ensures { result ≡ in_calendar (first_open n) }
 {
-    if CALENDAR_DAYS <= n {
-        return None;
-    }
-    let mut d = n;
-    let first = loop {
-        if is_open(d) {
-            break d;
-        }
-        d += 1;
-    };
-    Some(first)
+    (n..CALENDAR_DAYS).find(|&d| is_open(d))
 }
 
 // The last business day before the day n.
 fn last_open_before(n: u64) -> Option<u64>
     ensures { result ≡ last_open_before n }
 {
-    let mut d = n;
-    loop {
-        if d == 0 {
-            break None;
-        }
-        d -= 1;
-        if is_open(d) {
-            break Some(d);
-        }
-    }
+    (0..n).rfind(|&d| is_open(d))
 }
 
 // The date of a day that was worked out.
 pub fn date_of_day(d: Option<u64>) -> Option<u64>
     ensures { result ≡ answer_date d }
 {
-    match d {
-        Some(n) => gregorian::date_of(n),
-        None => None,
-    }
+    d.and_then(gregorian::date_of)
 }
 
 // The first business day on or after a date.
 pub fn first_business_day(x: u64) -> Option<u64>
     ensures { result ≡ first_business_day x }
 {
-    match gregorian::day_number(x) {
-        Some(n) => date_of_day(first_open(n)),
-        None => None,
-    }
+    date_of_day(first_open(gregorian::day_number(x)?))
 }
 
 // The last business day before a date.
 pub fn last_business_day_before(x: u64) -> Option<u64>
     ensures { result ≡ last_business_day_before x }
 {
-    match gregorian::day_number(x) {
-        Some(n) => date_of_day(last_open_before(n)),
-        None => None,
-    }
+    date_of_day(last_open_before(gregorian::day_number(x)?))
 }

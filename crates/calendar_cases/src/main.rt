@@ -33,35 +33,23 @@ fn end_line(rt: &impl Print) -> io::Result<()> {
 
 // A date, or 0 where there is none.
 fn shown(d: Option<u64>) -> u64 {
-    match d {
-        Some(x) => x,
-        None => 0,
-    }
-}
-
-fn bit(b: bool) -> u64 {
-    if b { 1 } else { 0 }
+    d.unwrap_or(0)
 }
 
 // The end of a period, in the order in which it is counted.
 fn end_of(x: u64, months: u64, days: u64, business: u64) -> u64 {
-    let m = Months(months);
-    let d = CalendarDays(days);
-    let b = BusinessDays(business);
-    shown(periods::period_end(
-        x,
-        Period {
-            months: m,
-            days: d,
-            business: b,
-        },
-    ))
+    let p = Period {
+        months: Months(months),
+        days: CalendarDays(days),
+        business: BusinessDays(business),
+    };
+    shown(periods::period_end(x, p))
 }
 
 // All answers for a date, in a row.
 fn answers(x: u64) -> [u64; 9] {
     [
-        bit(target::is_business_day(x)),
+        u64::from(target::is_business_day(x)),
         shown(target::first_business_day(x)),
         shown(target::last_business_day_before(x)),
         end_of(x, 0, 0, 5),
@@ -87,10 +75,7 @@ fn mixed(h: u64, v: u64) -> u64 {
 }
 
 fn day_digest(h: u64, x: u64) -> u64 {
-    let row = answers(x);
-    let a = mixed(mixed(mixed(h, row[0]), row[1]), row[2]);
-    let b = mixed(mixed(mixed(a, row[3]), row[4]), row[5]);
-    mixed(mixed(mixed(b, row[6]), row[7]), row[8])
+    answers(x).into_iter().fold(h, mixed)
 }
 
 // The digest of every date of a year: MMDD from 101 to 1231, those that are dates.

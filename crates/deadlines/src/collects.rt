@@ -22,10 +22,7 @@ const LAPSE_MONTHS: u64 = 36;
 pub fn kept_due(requested: u64) -> u64
     ensures { result ≡ kept_due requested }
 {
-    match first_business_day(requested) {
-        Some(x) => x,
-        None => 0,
-    }
+    first_business_day(requested).unwrap_or(0)
 }
 
 // The first business day on or after a day.
@@ -33,10 +30,7 @@ fn open_from(day: u64) -> u64
     requires { day < calendar_days }
     ensures { result ≡ first_open day }
 {
-    match first_open(day) {
-        Some(n) => n,
-        None => 0,
-    }
+    first_open(day).unwrap_or(0)
 }
 
 // Whether a business day on or after the day lies before the due day. Then the day is not after the last business day
@@ -78,24 +72,16 @@ fn is_timely_by_days(day: u64, asked: u64) -> bool
 pub fn is_timely(date: u64, requested: u64) -> bool
     ensures { result ≡ timely date requested }
 {
-    let Some(day) = day_number(date) else {
-        return is_timely_by_dates(date, requested);
-    };
-    let Some(asked) = day_number(requested) else {
-        return is_timely_by_dates(date, requested);
-    };
-    if asked < OPEN_WITHIN {
-        return is_timely_by_dates(date, requested);
+    match (day_number(date), day_number(requested)) {
+        (Some(day), Some(asked)) if OPEN_WITHIN <= asked => is_timely_by_days(day, asked),
+        _ => is_timely_by_dates(date, requested),
     }
-    is_timely_by_days(day, asked)
 }
 
 // Refusal 14: whether a mandate is lapsed for a collect of this kept due.
 pub fn is_lapsed(due: u64, presented: u64, signed: u64) -> bool
     ensures { result ≡ lapsed_for due presented signed }
 {
-    if presented == 0 {
-        return is_after(due, months_after(signed, Months(LAPSE_MONTHS)));
-    }
-    is_after(due, months_after(presented, Months(LAPSE_MONTHS)))
+    let start = if presented == 0 { signed } else { presented };
+    is_after(due, months_after(start, Months(LAPSE_MONTHS)))
 }

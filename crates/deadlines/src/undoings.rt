@@ -1,6 +1,5 @@
 // How long there is time to undo a settled collection.
 ghost use Rattle.std.specs.Prelude.{◌≡◌};
-ghost use Rattle.model.specs.declared.Way.TheVariants.{ByRefund};
 ghost use Rattle.model.specs.Deadlines.{period as periodIn, core, period_of, last_day, in_time};
 
 use calendar::periods::{is_after, period_end};
@@ -17,23 +16,14 @@ fn period(months: u64, days: u64, business: u64) -> Period
     }
 }
 
-// The period of a refund, by its code.
-fn refund_period(code: u64) -> Period
-    ensures { result ≡ period_of core (ByRefund 0 code) }
-{
-    if code == 0 {
-        return period(0, 56, 2);
-    }
-    period(13, 30, 4)
-}
-
 // The period of the Core scheme in which there is time.
 fn period_of(way: Way) -> Period
     ensures { result ≡ period_of core way }
 {
     match way {
         Way::ByReturn => period(0, 0, 5),
-        Way::ByRefund(_, code) => refund_period(code),
+        Way::ByRefund(_, 0) => period(0, 56, 2),
+        Way::ByRefund(..) => period(13, 30, 4),
         Way::ByReversal => period(0, 0, 5),
     }
 }

@@ -5,10 +5,12 @@ use Rattle.std.proofs.Common.{None, Option, Some, ℕ}
 use mathlib.Core.Path.{◌≡◌, refl}
 use mathlib.Core.Bool.{Bool, true, false, cond}
 use Prim.Native.Nat.{ℕ, ◌+◌, ◌<◌, ◌≤◌}
+use native.Mathlib.Omega.{arith}
 use lib.Dec.{ltb}
 use borrow.Author.Tests.{lt-ltb, le-ltb, ltb-true, ltb-false}
 use Rattle.calendar.specs.Gregorian.{is_date}
 use Rattle.calendar.specs.DayNumber.{calendar_days, day_number, day_of, date_at, date_of, in_calendar}
+use Rattle.calendar.proofs.Laws.DayNumber.{day_number_lt}
 
 -- ---- an answer under a test
 
@@ -45,6 +47,10 @@ day_of_is x e = rw e
 pub day_of_day_lem : (x n : ℕ) → day_of x ≡ Some n → (is_date x ≡ true) × (n ≡ day_number x)
 unfolding day_of
 day_of_day_lem x n e = cond_day (is_date x) (day_number x) n e
+
+-- such days are of the calendar
+pub day_lt : (x n : ℕ) → day_of x ≡ Some n → n < calendar_days
+day_lt x n e = let d = day_of_day_lem x n e in omega (arith, d.1, day_number_lt x d.0)
 
 pub day_of_none : (x : ℕ) → day_of x ≡ None → is_date x ≡ false
 unfolding day_of

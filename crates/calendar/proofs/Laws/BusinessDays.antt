@@ -1,7 +1,13 @@
 -- Laws of specs/Target: the first business day on or after a day, the n-th after it, the last one before it.
 -- To cite: `first_open_first`, `first_open_lt`, `first_open_near`, `first_open_mono`; `open_after_more`, `open_after_from`, `open_after_near`,
 -- `open_after_mono`, `openAfter-count`; `last_open_is`, `last_open_exists`, `first_before`. Assumes nothing.
-use Rattle.std.proofs.Common.{None, Some}
+use Rattle.std.proofs.Common.{None, Option, Some, MatchOption, List, [], ◌∷◌}
+use Rattle.std.specs.Option.{option_map}
+use Rattle.std.specs.List.{find}
+use Rattle.std.specs.Iterator.{AlwaysYields}
+use Rattle.std.proofs.iter.runs.Sources.{nat_range_steps_back}
+use Rattle.std.proofs.lemmas.Iterator.{YieldsList}
+use Rattle.std.specs.declared.ops.Range.{Range}
 use mathlib.Core.Path.{◌≡◌, refl, sym, ap, ◌∙◌}
 use mathlib.Core.Bool.{Bool, true, false, cond, not}
 use mathlib.Core.Logic.{⊎_elim}
@@ -13,9 +19,10 @@ use native.Mathlib.Omega.{arith}
 use lib.Dec.{ltb}
 use borrow.Author.Tests.{lt-ltb, le-ltb}
 use Rattle.common.proofs.Tests.{never}
-use Rattle.calendar.specs.DayNumber.{calendar_days}
+use Rattle.calendar.specs.DayNumber.{calendar_days, in_calendar}
 use Rattle.calendar.specs.Target.{is_open, First, seek, first_open, open_after, Last, last_open_before}
 use Rattle.calendar.specs.Promises.{LastFound}
+use Rattle.calendar.proofs.Laws.Answers.{in_calendar_is, in_calendar_beyond}
 use Rattle.calendar.proofs.Laws.Target.{open_lt, closed_not_last, first_unique, first_here, first_later, first_rest, first_mono}
 use Rattle.calendar.proofs.Laws.Holidays.{first_near}
 
@@ -222,3 +229,43 @@ pub last_mono : (n m r s : ℕ) → n ≤ m → Last n r → Last m s → r ≤ 
 last_mono n m r s h a b =
     let p : ¬ (s < r) = λ l. never a.is_open_lem (b.shut r l (omega (arith, a.before))) in
     omega arith
+
+-- ---- what a search along the days tells
+
+pub first_open_found :
+    (n : ℕ) (r : Option ℕ)
+    → MatchOption r ((j : ℕ) → n ≤ j → j < calendar_days → is_open j ≡ false)
+    (λ d. (n ≤ d) × (d < calendar_days) × (is_open d ≡ true) × ((j : ℕ) → n ≤ j → j < d → is_open j ≡ false))
+    → r ≡ in_calendar (first_open n)
+first_open_found n (Some d) f =
+    let e = first_open_is n d (record { from = f.0; is_open_lem = f.2; shut = f.3 }) in
+    rw e (sym (in_calendar_is d f.1))
+first_open_found n None shut =
+    elim (dec_le calendar_days n) [
+      | yes h ↦ sym (in_calendar_beyond (first_open n) (omega (arith, first_open_from n)))
+      | no h ↦
+          let f = first_open_first n (omega arith) in
+          absurd (never f.is_open_lem (shut (first_open n) f.from (first_open_lt n (omega arith))))
+    ]
+
+-- the days before the day n, the last one first: an iterator over them from the back gives them so
+pub days_back : ℕ → List ℕ
+days_back zero = []
+days_back (suc n) = n ∷ days_back n
+
+gives_back : (n : ℕ) (s : Range ℕ) → s.start ≡ 0 → s.end ≡ n → AlwaysYields nat_range_steps_back (λ x. x) s (days_back n)
+unfolding days_back
+gives_back zero s e f = λ x j p. omega (arith, p.1)
+gives_back (suc n) s e f = ((λ j p. omega (arith, p.1)), λ x j p. (omega (arith, p.1), gives_back n j (p.0 ∙ e) (omega (arith, p.1))))
+
+pub yields_back : (n : ℕ) → YieldsList nat_range_steps_back (λ x. x) (record { start = 0; end = n }) (days_back n)
+yields_back n = record { runs = gives_back n (record { start = 0; end = n }) refl refl }
+
+find_back : (n : ℕ) → find is_open (days_back n) ≡ last_open_before n
+unfolding days_back last_open_before
+find_back zero = refl
+find_back (suc n) = rw (find_back n)
+
+pub last_open_found : (n : ℕ) (r : Option ℕ) → option_map (λ x. x) r ≡ find is_open (days_back n) → r ≡ last_open_before n
+last_open_found n None e = e ∙ find_back n
+last_open_found n (Some d) e = e ∙ find_back n

@@ -1,7 +1,8 @@
 -- Laws of specs/Target: business days, and the first one on or after a day.
 -- To cite: `open_date` (a day is open when its date is a business day), `open_lt`, `first_unique`. Assumes nothing.
+use Rattle.std.proofs.Common.{None, Some, MatchOption}
 use mathlib.Core.Path.{◌≡◌, refl, ap, ◌∙◌}
-use mathlib.Core.Bool.{true, false, not}
+use mathlib.Core.Bool.{Bool, true, false, cond, not}
 use mathlib.Core.Logic.{⊎_elim}
 use Prim.Native.Nat.{ℕ, ◌+◌, ◌≤◌, ◌<◌}
 use native.Mathlib.Nat.{eq-or-lt_of_le}
@@ -10,7 +11,7 @@ use lib.Dec.{ltb}
 use borrow.Author.Tests.{lt-ltb, le-ltb, ltb-true}
 use Rattle.common.proofs.Tests.{never, and_halves}
 use Rattle.calendar.specs.Gregorian.{month_day, leap, leap_day, month_length, is_date, first_year}
-use Rattle.calendar.specs.DayNumber.{calendar_days, days_before, year_start, day_number, year_at, month_at, date_in, date_at}
+use Rattle.calendar.specs.DayNumber.{calendar_days, days_before, year_start, day_number, day_of, year_at, month_at, date_in, date_at}
 use Rattle.calendar.specs.Easter.{computus, easter_sunday}
 use Rattle.calendar.specs.Target.{closed_by, closed, business_day, is_open, First}
 use Rattle.calendar.proofs.Laws.DayNumber.{date_at_date, day_number_date_at, year_date_at, date_at_day_number, day_number_lt}
@@ -94,3 +95,12 @@ pub first_mono : (n m r s : ℕ) → n ≤ m → First n r → First m s → r �
 first_mono n m r s h a b =
     let p : ¬ (s < r) = λ l. never b.is_open_lem (a.shut s (omega (arith, b.from)) l) in
     omega arith
+
+-- a date's day, if there is one, is a business day when the date is
+pub day_business : (x : ℕ) → MatchOption (day_of x) (business_day x ≡ false) (λ n. is_open n ≡ business_day x)
+unfolding day_of
+day_business x = day_business_case (is_date x) refl
+  where
+    day_business_case : (b : Bool) → is_date x ≡ b → MatchOption (cond b (Some (day_number x)) None) (business_day x ≡ false) (λ n. is_open n ≡ business_day x)
+    day_business_case true e = open_date x e
+    day_business_case false e = no_date_no_business x e

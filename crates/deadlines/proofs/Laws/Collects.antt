@@ -1,5 +1,4 @@
--- Laws of the terms of a collect: the kept due, the time by the days, the lapse.
--- To cite: `kept_due_date`, `kept_due_none`, `timely_days`, `day_lt`, `lapse_end_signed`, `lapse_end_presented`. Assumes nothing.
+-- Laws of the terms of a collect: the kept due, the time by the days. To cite: `timely_days`. Assumes nothing.
 use Rattle.std.proofs.Common.{None, Some}
 use mathlib.Core.Path.{◌≡◌}
 use mathlib.Core.Bool.{not, ◌&&◌}
@@ -20,14 +19,9 @@ use Rattle.model.specs.Deadlines.{kept_due, timely, lapse_end}
 
 -- ---- kept due and time
 
-module _ (requested : ℕ) where
-  pub kept_due_date : (x : ℕ) → first_business_day requested ≡ Some x → kept_due requested ≡ x
-  unfolding kept_due
-  kept_due_date x e = rw e
-
-  pub kept_due_none : first_business_day requested ≡ None → kept_due requested ≡ 0
-  unfolding kept_due
-  kept_due_none e = rw e
+kept_due_date : (requested x : ℕ) → first_business_day requested ≡ Some x → kept_due requested ≡ x
+unfolding kept_due
+kept_due_date requested x e = rw e
 
 -- both tests by the days
 pub timely_days :
@@ -46,18 +40,3 @@ timely_days date requested day asked e f h =
       d.1,
       r.1,
     )
-
--- such days are of the calendar
-pub day_lt : (x n : ℕ) → day_of x ≡ Some n → n < calendar_days
-day_lt x n e = let d = day_of_day_lem x n e in omega (arith, d.1, day_number_lt x d.0)
-
--- ---- lapse
-
-module _ (presented signed : ℕ) where
-  pub lapse_end_signed : presented ≡ 0 → lapse_end presented signed ≡ months_after (record { 0 = 36 }) signed
-  unfolding lapse_end
-  lapse_end_signed e = rw (eq-eqb presented 0 e)
-
-  pub lapse_end_presented : presented ≢ 0 → lapse_end presented signed ≡ months_after (record { 0 = 36 }) presented
-  unfolding lapse_end
-  lapse_end_presented ne = rw (ne_eqb presented 0 ne)

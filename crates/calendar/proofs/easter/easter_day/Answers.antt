@@ -2,10 +2,8 @@ use Rattle.calendar.proofs.Laws.Easter.{easter_day_of_date, easter_day_of_none}
 use mathlib.Core.Path.{sym, ◌∙◌}
 use Rattle.calendar.proofs.easter.easter_day.Goals as goal
 
-pub returns-in-Some : goal.returns-in-Some
-returns-in-Some c =
-    c.day_number.ensures
-    ∙ sym (easter_day_of_date _ _ (sym c.easter_sunday.ensures ∙ c.in-Some.is))
+pub returns-in_err-easter_sunday : goal.returns-in_err-easter_sunday
+returns-in_err-easter_sunday c = c.from_residual.ensures ∙ sym (easter_day_of_none _ (sym c.in_err-easter_sunday.ensures))
 
-pub returns-in-None : goal.returns-in-None
-returns-in-None c = sym (easter_day_of_none _ (sym c.easter_sunday.ensures ∙ c.in-None.is))
+pub returns : goal.returns
+returns c = c.day_number.ensures ∙ sym (easter_day_of_date _ _ (sym c.in_ok-easter_sunday.ensures))

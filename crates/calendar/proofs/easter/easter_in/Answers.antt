@@ -3,4 +3,4 @@ use mathlib.Core.Path.{◌∙◌}
 use Rattle.calendar.proofs.easter.easter_in.Goals as goal
 
 pub returns : goal.returns
-returns c = c.wide.ensures ∙ table_easter _ c.requires
+returns c = c.from.ensures ∙ table_easter _ c.requires

@@ -1,15 +1,17 @@
 use borrow.Author.Tests.{eq-eqb, ne_eqb}
+use native.Mathlib.Omega.{arith}
+use Rattle.std.proofs.lemmas.Grind.{common_steps}
 use Rattle.calendar.specs.Gregorian.{month_length}
 use Rattle.calendar.proofs.gregorian.month_length.Goals as goal
 
-pub returns-then-m-eq2 : goal.returns-then-m-eq2
+pub returns-in-2 : goal.returns-in-2
 unfolding month_length
-returns-then-m-eq2 c = simp (eq-eqb _ _ c.if-m-eq2.true)
+returns-in-2 c = grind (arith, common_steps)
 
-pub returns-then-m : goal.returns-then-m
+pub returns-in-4 : goal.returns-in-4
 unfolding month_length
-returns-then-m c = rw (ne_eqb _ _ c.if-m-eq2.false, c.if-m.true)
+returns-in-4 c = grind (arith, common_steps)
 
-pub returns : goal.returns
+pub returns-in_default : goal.returns-in_default
 unfolding month_length
-returns c = rw (ne_eqb _ _ c.if-m-eq2.false, c.if-m.false)
+returns-in_default c = grind (arith, common_steps)

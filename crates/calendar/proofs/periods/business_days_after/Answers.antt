@@ -1,22 +1,13 @@
-use Rattle.std.proofs.Common.{Some}
 use Rattle.calendar.proofs.Laws.Periods.{business_days_after_day, business_days_after_none}
-use Rattle.calendar.proofs.Laws.Answers.{day_of_day_lem}
-use Rattle.calendar.proofs.Laws.DayNumber.{day_number_lt}
-use Rattle.calendar.specs.DayNumber.{calendar_days, day_of}
-use Prim.Native.Nat.{◌<◌}
-use mathlib.Core.Path.{◌≡◌, sym, ◌∙◌}
+use Rattle.calendar.proofs.Laws.Answers.{day_lt}
+use mathlib.Core.Path.{sym, ◌∙◌}
 use Rattle.calendar.proofs.periods.business_days_after.Goals as goal
 
+pub returns-in_err-day_number : goal.returns-in_err-day_number
+returns-in_err-day_number c = c.from_residual.ensures ∙ sym (business_days_after_none _ _ (sym c.in_err-day_number.ensures))
+
 pub open_after-requires : goal.open_after-requires
-open_after-requires c =
-    let known : day_of c.args.x ≡ Some c.in-Some.d = sym c.day_number.ensures ∙ c.in-Some.is in
-    let known_lt : c.in-Some.d < calendar_days = let p = day_of_day_lem _ _ known in rw p.1 (day_number_lt _ p.0) in
-    known_lt
+open_after-requires c = day_lt _ _ (sym c.in_ok-day_number.ensures)
 
-pub returns-in-Some : goal.returns-in-Some
-returns-in-Some c =
-    let known : day_of c.args.x ≡ Some c.in-Some.d = sym c.day_number.ensures ∙ c.in-Some.is in
-    c.open_after.ensures ∙ sym (business_days_after_day _ _ _ known)
-
-pub returns-in-None : goal.returns-in-None
-returns-in-None c = sym (business_days_after_none _ _ (sym c.day_number.ensures ∙ c.in-None.is))
+pub returns : goal.returns
+returns c = c.open_after.ensures ∙ sym (business_days_after_day _ _ _ (sym c.in_ok-day_number.ensures))

@@ -1,22 +1,21 @@
-use Rattle.std.proofs.Common.{Some}
 use Rattle.calendar.proofs.Laws.Periods.{days_after_day, days_after_none}
-use Rattle.calendar.proofs.Laws.Answers.{day_of_day_lem}
-use Rattle.calendar.proofs.Laws.DayNumber.{day_number_lt}
-use Rattle.calendar.specs.DayNumber.{calendar_days, day_of}
-use Prim.Native.Nat.{◌<◌}
-use mathlib.Core.Path.{◌≡◌, sym, ◌∙◌}
+use Rattle.calendar.proofs.Laws.Answers.{date_of_beyond}
+use Rattle.calendar.specs.DayNumber.{date_of}
+use native.Mathlib.Omega.{arith}
+use mathlib.Core.Path.{sym, ◌∙◌, ap}
 use Rattle.calendar.proofs.periods.days_after.Goals as goal
 
-pub plus-requires : goal.plus-requires
-plus-requires c =
-    let known : day_of c.args.x ≡ Some c.in-Some.d = sym c.day_number.ensures ∙ c.in-Some.is in
-    let known_lt : c.in-Some.d < calendar_days = let p = day_of_day_lem _ _ known in rw p.1 (day_number_lt _ p.0) in
-    known_lt
+pub returns-in_err-d : goal.returns-in_err-d
+returns-in_err-d c = c.from_residual.ensures ∙ sym (days_after_none _ _ (sym c.in_err-d.ensures))
 
-pub returns-in-Some : goal.returns-in-Some
-returns-in-Some c =
-    let known : day_of c.args.x ≡ Some c.in-Some.d = sym c.day_number.ensures ∙ c.in-Some.is in
-    c.plus.ensures ∙ sym (days_after_day _ _ _ known)
+pub returns-in_err-checked_add : goal.returns-in_err-checked_add
+returns-in_err-checked_add c =
+    c.from_residual-in_err-checked_add.ensures
+    ∙ sym (date_of_beyond _ (omega (arith, c.in_err-checked_add.ensures)))
+    ∙ sym (days_after_day _ _ _ (sym c.in_ok-d.ensures))
 
-pub returns-in-None : goal.returns-in-None
-returns-in-None c = sym (days_after_none _ _ (sym c.day_number.ensures ∙ c.in-None.is))
+pub returns : goal.returns
+returns c =
+    c.date_of.ensures
+    ∙ ap date_of c.in_ok-checked_add.ensures.1
+    ∙ sym (days_after_day _ _ _ (sym c.in_ok-d.ensures))

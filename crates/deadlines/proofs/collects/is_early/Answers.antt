@@ -1,19 +1,10 @@
 use Rattle.calendar.proofs.Laws.BusinessDays.{first_open_from, first_open_near}
-use Rattle.calendar.specs.Target.{first_open}
-use borrow.Author.Tests.{lt-ltb, le-ltb}
 use native.Mathlib.Omega.{arith}
-use mathlib.Core.Path.{sym}
+use Rattle.std.proofs.lemmas.Grind.{common_steps}
 use Rattle.deadlines.proofs.collects.is_early.Goals as goal
 
 pub returns-then-due-day : goal.returns-then-due-day
-returns-then-due-day c =
-    let s = c.args in
-    sym (le-ltb (first_open s.day) s.due (omega (arith, first_open_from s.day)))
+returns-then-due-day c = let from = first_open_from c.args.day in grind (arith, common_steps, from)
 
 pub returns-then-day-due : goal.returns-then-day-due
-returns-then-day-due c =
-    let s = c in
-    sym (lt-ltb (first_open s.args.day) s.args.due (omega (arith, first_open_near s.args.day s.requires)))
-
-pub returns : goal.returns
-returns c = rw c.open_from.ensures
+returns-then-day-due c = let near = first_open_near c.args.day c.requires in grind (arith, common_steps, near)

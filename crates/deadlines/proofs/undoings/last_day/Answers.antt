@@ -1,5 +1,3 @@
--- `last_day` is the end of the way's period.
--- Assumes nothing.
 use Rattle.model.specs.Deadlines.{last_day}
 use Rattle.deadlines.proofs.undoings.last_day.Goals as goal
 
