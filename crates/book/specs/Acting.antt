@@ -1,10 +1,10 @@
 -- An event acted on by the rows that were found of what it names: the promise of the call that its kind asks for. That it is the model's
 -- answer and effect on a fit ledger, of an event within its limits: `acted_taken` of proofs/Laws/Events. Assumes nothing.
-use Rattle.std.specs.Prelude.{Bool, ◌&&◌, ℕ, leb, Option}
+use Rattle.std.specs.Prelude.{Bool, ◌&&◌, ℕ, leb, Option, Result}
+use Rattle.refusals.specs.declared.Refusal.{Refusal}
 use Rattle.tables.specs.Ledger.{Ledger}
 use Rattle.model.specs.declared.Action.{Action}
 use Rattle.model.specs.declared.Action.TheVariants.{AddCreditor, AddMandate, ChangeMandate, Collect, Treat}
-use Rattle.checking.specs.declared.Outcome.{Outcome}
 use Rattle.records.specs.Records.{CreditorAdded, MandateAdded, MandateChanged, Collected}
 use Rattle.treatments.specs.Treatments.{Treated}
 
@@ -16,7 +16,7 @@ abbrev pub names_collection : ℕ → Bool
 names_collection kind = leb 5 kind
 
 -- from the ledger l to the ledger l'
-abbrev pub ActedOn : Option ℕ → Option ℕ → Ledger → ℕ → Action → Outcome → Ledger → Type 0
+abbrev pub ActedOn : Option ℕ → Option ℕ → Ledger → ℕ → Action → Result Unit Refusal → Ledger → Type 0
 ActedOn mandate collection l date (AddCreditor number bank) r l' = CreditorAdded l date number bank r l'
 ActedOn mandate collection l date (AddMandate m) r l' = MandateAdded mandate l date m r l'
 ActedOn mandate collection l date (ChangeMandate n c) r l' = MandateChanged mandate l date c r l'

@@ -4,13 +4,12 @@ use Rattle.events.specs.declared.Event.{Event}
 use Rattle.tables.specs.Ledger.{Ledger}
 use Rattle.fitness.specs.Fitness.{fit}
 use Rattle.model.specs.Step.{answer_number, answer, event_number, after, in_query, figure_of, query, query_number, answered}
-use Rattle.checking.specs.declared.Outcome.{Outcome}
 use Rattle.refusals.specs.declared.Refusal.{Refusal}
 
 -- the event given to the ledger l: the answer, and the ledger l' after it
-pub record Taken (l : Ledger) (e : Event) (r : Outcome) (l' : Ledger) : Type 0 where
-  pub answer_is : r.answer ≡ answer l e
-  pub number_is : answer_number r.answer ≡ event_number l e
+pub record Taken (l : Ledger) (e : Event) (r : Result Unit Refusal) (l' : Ledger) : Type 0 where
+  pub answer_is : r ≡ answer l e
+  pub number_is : answer_number r ≡ event_number l e
   pub after_is : l' ≡ after l e
 
 -- the query given to the ledger l: the answer, its number and the figure

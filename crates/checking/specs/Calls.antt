@@ -1,11 +1,9 @@
 -- What an action needs and leaves: the rows of what it names, an answer, and the ledger with the action's effect where it is
 -- accepted. Assumes nothing.
 use Rattle.std.specs.Prelude.{◌≡◌, Bool, true, false, List, ℕ, ltb, Option, Some, None, Result}
-use Rattle.tables.specs.declared.Header.{Header}
 use Rattle.tables.specs.Ledger.{Ledger}
 use Rattle.tables.specs.Lookup.{existing}
 use Rattle.model.specs.Step.{after_answer}
-use Rattle.checking.specs.declared.Outcome.{Outcome}
 use Rattle.refusals.specs.declared.Refusal.{Refusal}
 
 -- ---- the row of a number
@@ -27,11 +25,6 @@ found_row None = 0
 -- ---- what is left
 
 -- from the ledger l, which the action would make the ledger `changed`, to the ledger l'
-pub record Done (answer : Result Unit Refusal) (l changed : Ledger) (r : Outcome) (l' : Ledger) : Type 0 where
-  pub answer_is : r.answer ≡ answer
+pub record Done (answer : Result Unit Refusal) (l changed : Ledger) (r : Result Unit Refusal) (l' : Ledger) : Type 0 where
+  pub answer_is : r ≡ answer
   pub after_is : l' ≡ after_answer answer changed l
-
--- the header with another latest date and other row counts
-abbrev pub dated_header : Header → ℕ → ℕ → ℕ → Header
-dated_header h date mandates collections =
-    record { latest = date; mandates = mandates; collections = collections; compensation = h.compensation }

@@ -4,20 +4,12 @@
 
 ghost use Rattle.std.specs.Prelude.{◌≡◌, cond};
 ghost use Rattle.checking.specs.Order.{none_fails, first_failing};
-ghost use Rattle.checking.specs.Calls.{is_found, used_row, found_row, dated_header};
+ghost use Rattle.checking.specs.Calls.{is_found, used_row, found_row};
 
 pub mod actions;
 
 use refusals::Refusal;
 use tables::lookup::existing_of;
-use tables::Header;
-
-// The header after an event, and the answer to it. The header stands first so that it lies where it is copied whole.
-#[derive(Clone, Copy)]
-pub struct Outcome {
-    pub header: Header,
-    pub answer: Result<(), Refusal>,
-}
 
 // Whether each test is passed, in checking order.
 #[derive(Clone, Copy)]
@@ -82,18 +74,6 @@ pub fn first_failing(t: Tests) -> Result<(), Refusal>
     let r = checked(t.new, Refusal::AlreadyExists, r);
     let r = checked(t.day, Refusal::NotBusinessDay, r);
     checked(t.order, Refusal::BeforeLatest, r)
-}
-
-// The header after an accepted event that posts nothing.
-pub fn dated_header(header: Header, date: u64, mandates: usize, collections: usize) -> Header
-    ensures { result ≡ dated_header header date mandates collections }
-{
-    Header {
-        latest: date,
-        mandates: mandates,
-        collections: collections,
-        compensation: header.compensation,
-    }
 }
 
 pub fn is_found(found: Option<usize>) -> bool

@@ -14,7 +14,6 @@ use Rattle.model.specs.declared.Presentation.{Presentation}
 use Rattle.model.specs.Deadlines.{kept_due, timely, lapsed_for}
 use Rattle.model.specs.Checks.{in_order, change_names, stands_live, takes}
 use Rattle.model.specs.Effects.{dated, with_creditors, keep_mandate, add_mandate, add_collection, changed, closes, presented_on, new_collection}
-use Rattle.checking.specs.declared.Outcome.{Outcome}
 use Rattle.checking.specs.Calls.{is_found, used_row, found_row, Done}
 
 -- ---- event 1
@@ -32,7 +31,7 @@ creditor_answer l date number = judged (creditor_checks l date number) (Ok tt)
 abbrev pub creditor_effect : Ledger → ℕ → ℕ → ℕ → Ledger
 creditor_effect l date number bank = with_creditors (dated l date) (set l.creditors (number - 1) bank)
 
-abbrev pub CreditorAdded : Ledger → ℕ → ℕ → ℕ → Outcome → Ledger → Type 0
+abbrev pub CreditorAdded : Ledger → ℕ → ℕ → ℕ → Result Unit Refusal → Ledger → Type 0
 CreditorAdded l date number bank r l' = Done (creditor_answer l date number) l (creditor_effect l date number bank) r l'
 
 -- ---- event 2
@@ -48,7 +47,7 @@ mandate_checks found l date m =
 abbrev pub mandate_answer : Option ℕ → Ledger → ℕ → Mandate → Result Unit Refusal
 mandate_answer found l date m = judged (mandate_checks found l date m) (Ok tt)
 
-abbrev pub MandateAdded : Option ℕ → Ledger → ℕ → Mandate → Outcome → Ledger → Type 0
+abbrev pub MandateAdded : Option ℕ → Ledger → ℕ → Mandate → Result Unit Refusal → Ledger → Type 0
 MandateAdded found l date m r l' = Done (mandate_answer found l date m) l (add_mandate (dated l date) m) r l'
 
 -- ---- events 3 and 4
@@ -77,7 +76,7 @@ change_answer found l date c = change_judged l.latest date c (mandate_there foun
 abbrev pub change_effect : Option ℕ → Ledger → ℕ → Change → Ledger
 change_effect found l date c = keep_mandate (dated l date) (found_row found) (changed c (mandate_in found l))
 
-abbrev pub MandateChanged : Option ℕ → Ledger → ℕ → Change → Outcome → Ledger → Type 0
+abbrev pub MandateChanged : Option ℕ → Ledger → ℕ → Change → Result Unit Refusal → Ledger → Type 0
 MandateChanged found l date c r l' = Done (change_answer found l date c) l (change_effect found l date c) r l'
 
 -- ---- event 5
@@ -124,6 +123,6 @@ collect_effect found l date p =
     (keep_mandate (dated l date) (found_row found) (presented_on p (mandate_in found l)))
     (new_collection l.creditors p (mandate_in found l))
 
-abbrev pub Collected : Option ℕ → Option ℕ → Ledger → ℕ → Presentation → Outcome → Ledger → Type 0
+abbrev pub Collected : Option ℕ → Option ℕ → Ledger → ℕ → Presentation → Result Unit Refusal → Ledger → Type 0
 Collected mandate collection l date p r l' =
     Done (collect_answer mandate collection l date p) l (collect_effect mandate l date p) r l'

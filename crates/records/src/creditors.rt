@@ -1,20 +1,20 @@
 // Event 1: a creditor is added with its bank.
-ghost use Rattle.std.specs.Prelude.{◌≡◌, List, ℕ, ◌-◌, ◌≤◌, ℤ, length, set};
-ghost use Rattle.tables.specs.Ledger.{ledger};
+ghost use Rattle.std.specs.Prelude.{◌≡◌, ◌-◌, ◌≤◌, length, set};
+ghost use Rattle.tables.specs.Ledger.{ledger_in, SameLoans};
 ghost use Rattle.records.specs.Records.{creditor_answer, CreditorAdded};
 
-use checking::{Outcome, dated_header, first_failing, none_fails};
-use tables::Header;
-use tables::creditors::is_added;
+use checking::{first_failing, none_fails};
 use refusals::Refusal;
+use tables::BookMut;
+use tables::creditors::is_added;
 
-fn judge_creditor(header: Header, date: u64, number: u64, creditors: &[u64]) -> Result<(), Refusal>
-    ensures { (m c : List ℕ) (cp dp bp : List ℤ) → result ≡ creditor_answer (ledger header m c creditors.now cp dp bp) date number }
+fn judge_creditor(book: &BookMut, date: u64, number: u64) -> Result<(), Refusal>
+    ensures { result ≡ creditor_answer (ledger_in book.now) date number }
 {
     let mut tests = none_fails();
-    tests.order = header.latest <= date;
-    tests.new = !is_added(creditors, number);
-    tests.there = (1 <= number) & (number <= creditors.len() as u64);
+    tests.order = book.header.latest <= date;
+    tests.new = !is_added(book.creditors, number);
+    tests.there = (1 <= number) & (number <= book.creditors.len() as u64);
     first_failing(tests)
 }
 
@@ -27,26 +27,12 @@ fn put_bank(creditors: &mut [u64], number: u64, bank: u64)
 }
 
 // The creditor of a number gets its bank.
-pub fn add_creditor(
-    header: Header,
-    date: u64,
-    number: u64,
-    bank: u64,
-    creditors: &mut [u64],
-) -> Outcome
-    ensures { (m c : List ℕ) (cp dp bp : List ℤ) → CreditorAdded (ledger header m c creditors.old cp dp bp) date number bank result (ledger result.header m c creditors.new cp dp bp) }
+pub fn add_creditor(book: &mut BookMut, date: u64, number: u64, bank: u64) -> Result<(), Refusal>
+    ensures loans { SameLoans book.old book.new }
+    ensures added { CreditorAdded (ledger_in book.old) date number bank result (ledger_in book.new) }
 {
-    match judge_creditor(header, date, number, creditors) {
-        Err(r) => Outcome {
-            answer: Err(r),
-            header: header,
-        },
-        Ok(()) => {
-            put_bank(creditors, number, bank);
-            Outcome {
-                answer: Ok(()),
-                header: dated_header(header, date, header.mandates, header.collections),
-            }
-        }
-    }
+    judge_creditor(book, date, number)?;
+    put_bank(book.creditors, number, bank);
+    book.header.latest = date;
+    Ok(())
 }

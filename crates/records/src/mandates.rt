@@ -1,71 +1,65 @@
 // Events 2, 3 and 4: a mandate is added, amended or cancelled.
-ghost use Rattle.std.specs.Prelude.{◌≡◌, List, ℕ, ℤ};
-ghost use Rattle.tables.specs.Ledger.{ledger};
+ghost use Rattle.std.specs.Prelude.{◌≡◌};
+ghost use Rattle.tables.specs.Ledger.{ledger_in, SameLoans};
 ghost use Rattle.model.specs.Checks.{change_names, stands_live};
 ghost use Rattle.model.specs.Effects.{changed};
-ghost use Rattle.records.specs.Records.{mandate_answer, MandateAdded, change_judged, MandateChanged};
+ghost use Rattle.records.specs.Records.{mandate_answer, MandateAdded, mandate_there, mandate_in, change_judged, MandateChanged};
 
-use checking::{Outcome, dated_header, first_failing, found_row, is_found, is_used, none_fails};
+use checking::{first_failing, found_row, is_used, none_fails};
 use model::Change;
-use tables::anew::remade;
-use tables::creditors::is_added;
-use tables::rows::{mandate_at, put_mandate, rows_of};
-use tables::{Header, Mandate, Standing};
 use refusals::Refusal;
+use tables::creditors::is_added;
+use tables::rows::{put_record, record_at, rows_of};
+use tables::{BookMut, Mandate, Standing};
 
 pub fn is_live(standing: Standing) -> bool
     ensures { result ≡ stands_live standing }
 {
-    match standing {
-        Standing::Live => true,
-        Standing::Closed => false,
-        Standing::Cancelled => false,
-    }
+    standing == Standing::Live
 }
 
-fn judge_mandate(
-    header: Header,
-    date: u64,
-    m: Mandate,
-    found: Option<usize>,
-    mandates: &[u64],
-    creditors: &[u64],
-) -> Result<(), Refusal>
-    ensures { (c : List ℕ) (cp dp bp : List ℤ) → result ≡ mandate_answer found (ledger header mandates.now c creditors.now cp dp bp) date m }
+// Whether the mandate in the row that was found is there.
+pub(crate) fn mandate_there(book: &BookMut, found: Option<usize>) -> bool
+    ensures { result ≡ mandate_there found (ledger_in book.now) }
+{
+    is_used(found, book.mandates, book.header.mandates)
+}
+
+// The mandate in the row that was found.
+#[tactic(auto, unfolding(tables::specs::Rows::mandate_at))]
+pub(crate) fn mandate_in(book: &BookMut, found: Option<usize>) -> Mandate
+    ensures { result ≡ mandate_in found (ledger_in book.now) }
+{
+    record_at(book.mandates, found_row(found))
+}
+
+fn judge_mandate(book: &BookMut, date: u64, m: Mandate, found: Option<usize>) -> Result<(), Refusal>
+    ensures { result ≡ mandate_answer found (ledger_in book.now) date m }
 {
     let mut tests = none_fails();
-    tests.order = header.latest <= date;
-    tests.new = !is_found(found);
-    tests.there = is_added(creditors, m.creditor);
-    tests.room = header.mandates < rows_of(mandates);
+    tests.order = book.header.latest <= date;
+    tests.new = found.is_none();
+    tests.there = is_added(book.creditors, m.creditor);
+    tests.room = book.header.mandates < rows_of(book.mandates);
     first_failing(tests)
 }
 
 // Event 2: the mandate goes into the next row. `found` is the row of its number.
 pub fn add_mandate(
-    header: Header,
+    book: &mut BookMut,
     date: u64,
     m: Mandate,
     found: Option<usize>,
-    mandates: &mut [u64],
-    creditors: &[u64],
-) -> Outcome
-    ensures { (c : List ℕ) (cp dp bp : List ℤ) → MandateAdded found (ledger header mandates.old c creditors.now cp dp bp) date m result (ledger result.header mandates.new c creditors.now cp dp bp) }
+) -> Result<(), Refusal>
+    ensures loans { SameLoans book.old book.new }
+    ensures added { MandateAdded found (ledger_in book.old) date m result (ledger_in book.new) }
 {
-    match judge_mandate(header, date, m, found, mandates, creditors) {
-        Err(r) => Outcome {
-            answer: Err(r),
-            header: header,
-        },
-        Ok(()) => {
-            let used = header.mandates;
-            put_mandate(mandates, used, m);
-            Outcome {
-                answer: Ok(()),
-                header: dated_header(header, date, used + 1, header.collections),
-            }
-        }
-    }
+    judge_mandate(book, date, m, found)?;
+    let used = book.header.mandates;
+    put_record(book.mandates, used, m);
+    book.header.latest = date;
+    book.header.mandates = used + 1;
+    Ok(())
 }
 
 // Whether the creditor that a change names, if any, exists.
@@ -73,82 +67,59 @@ fn names_added(change: Change, creditors: &[u64]) -> bool
     ensures { result ≡ change_names creditors.now change }
 {
     match change {
-        Change::NewBank(_) => true,
+        Change::NewBank(_) | Change::Cancel => true,
         Change::NewCreditor(a) => is_added(creditors, a),
-        Change::Cancel => true,
     }
 }
 
 fn judge_change(
-    header: Header,
+    book: &BookMut,
     date: u64,
     change: Change,
     there: bool,
     m: Mandate,
-    creditors: &[u64],
 ) -> Result<(), Refusal>
-    ensures { result ≡ change_judged header.latest date change there m creditors.now }
+    ensures { result ≡ change_judged book.now.header.latest date change there m book.now.creditors.now }
 {
-    let standing = m.standing;
     let mut tests = none_fails();
-    tests.order = header.latest <= date;
-    tests.there = there & names_added(change, creditors);
-    tests.live = is_live(standing);
+    tests.order = book.header.latest <= date;
+    tests.there = there & names_added(change, book.creditors);
+    tests.live = is_live(m.standing);
     first_failing(tests)
 }
 
+#[tactic(auto, unfolding(model::specs::Effects::changed))]
 fn changed_mandate(change: Change, m: Mandate) -> Mandate
     ensures { result ≡ changed change m }
 {
-    let standing = m.standing;
     match change {
-        Change::NewBank(bank) => remade(
-            m,
-            m.creditor,
+        Change::NewBank(bank) => Mandate {
             bank,
-            standing,
-            (m.code == 0) | m.first,
-            m.presented,
-        ),
-        Change::NewCreditor(creditor) => {
-            remade(m, creditor, m.bank, standing, m.first, m.presented)
-        }
-        Change::Cancel => remade(
-            m,
-            m.creditor,
-            m.bank,
-            Standing::Cancelled,
-            m.first,
-            m.presented,
-        ),
+            first: (m.code == 0) | m.first,
+            ..m
+        },
+        Change::NewCreditor(creditor) => Mandate { creditor, ..m },
+        Change::Cancel => Mandate {
+            standing: Standing::Cancelled,
+            ..m
+        },
     }
 }
 
 // Events 3 and 4: the mandate in the row that was found changes.
 pub fn change_mandate(
-    header: Header,
+    book: &mut BookMut,
     date: u64,
     change: Change,
     found: Option<usize>,
-    mandates: &mut [u64],
-    creditors: &[u64],
-) -> Outcome
-    ensures { (c : List ℕ) (cp dp bp : List ℤ) → MandateChanged found (ledger header mandates.old c creditors.now cp dp bp) date change result (ledger result.header mandates.new c creditors.now cp dp bp) }
+) -> Result<(), Refusal>
+    ensures loans { SameLoans book.old book.new }
+    ensures changed { MandateChanged found (ledger_in book.old) date change result (ledger_in book.new) }
 {
-    let there = is_used(found, mandates, header.mandates);
-    let row = found_row(found);
-    let m = mandate_at(mandates, row);
-    match judge_change(header, date, change, there, m, creditors) {
-        Err(r) => Outcome {
-            answer: Err(r),
-            header: header,
-        },
-        Ok(()) => {
-            put_mandate(mandates, row, changed_mandate(change, m));
-            Outcome {
-                answer: Ok(()),
-                header: dated_header(header, date, header.mandates, header.collections),
-            }
-        }
-    }
+    let there = mandate_there(book, found);
+    let m = mandate_in(book, found);
+    judge_change(book, date, change, there, m)?;
+    put_record(book.mandates, found_row(found), changed_mandate(change, m));
+    book.header.latest = date;
+    Ok(())
 }

@@ -1,6 +1,6 @@
 -- Laws of the call for an event: acting on it by the rows of what it names is the model's step. To cite: `found_for`, `acted_taken`,
 -- `taken_unfit`, `taken_refused`. Assumes nothing.
-use Rattle.std.proofs.Common.{Err, None, Ok, Option, ℕ}
+use Rattle.std.proofs.Common.{Err, None, Ok, Option, ℕ, Result}
 use mathlib.Core.Path.{◌≡◌, refl, sym, ◌∙◌, ap, subst}
 use mathlib.Core.Bool.{true, false, cond}
 use Prim.Native.Nat.{ℕ, ◌≤◌}
@@ -29,7 +29,6 @@ use Rattle.model.specs.Effects.{effect}
 use Rattle.model.specs.Step.{answer_number, answer, after}
 use Rattle.model.proofs.Laws.Actions.{action_creditor, action_mandate, action_amend, action_cancel, action_collect, action_settle, action_reject, action_return, action_refund, action_reversal}
 use Rattle.model.proofs.Laws.Answers.{event_numbers}
-use Rattle.checking.specs.declared.Outcome.{Outcome}
 use Rattle.checking.specs.Calls.{Done}
 use Rattle.records.proofs.Laws.Records.{creditor_ruled, mandate_ruled, change_ruled, collect_ruled}
 use Rattle.treatments.proofs.Laws.Ready.{rate_of, treat_ruled}
@@ -56,7 +55,7 @@ found_for e l mandate collection mandateSince collectionSince s t m c = record {
 
 -- ---- acting on the event is the model's answer and effect
 
-module _ (l : Ledger) (e : Event) (mandate collection : Option ℕ) (r : Outcome) (l' : Ledger)
+module _ (l : Ledger) (e : Event) (mandate collection : Option ℕ) (r : Result Unit Refusal) (l' : Ledger)
     (f : fit l ≡ true) (w : checked e ≡ (Ok tt)) (n : FoundFor e l mandate collection) where
   abbrev Ruled : Action → Type 0
   Ruled a = ActedOn mandate collection l e.date a r l' → Done (ruled l e.date a) l (effect l e.date a) r l'
@@ -120,19 +119,19 @@ module _ (l : Ledger) (e : Event) (mandate collection : Option ℕ) (r : Outcome
 -- ---- the call
 
 module _ (l : Ledger) (e : Event) where
-  made : (r : Outcome) (l' : Ledger) → r.answer ≡ answer l e → l' ≡ after l e → Taken l e r l'
+  made : (r : Result Unit Refusal) (l' : Ledger) → r ≡ answer l e → l' ≡ after l e → Taken l e r l'
   made r l' a b = record { answer_is = a; number_is = ap answer_number a ∙ event_numbers l e; after_is = b }
 
-  pub taken_unfit : (h : Header) → fit l ≡ false → Taken l e (record { answer = Err UnfitMemory; header = h }) l
+  pub taken_unfit : fit l ≡ false → Taken l e (Err UnfitMemory) l
   unfolding answer after
-  taken_unfit h f = made (record { answer = Err UnfitMemory; header = h }) l (rw f) (rw f)
+  taken_unfit f = made (Err UnfitMemory) l (rw f) (rw f)
 
-  pub taken_refused : (h : Header) (r : Refusal) → fit l ≡ true → checked e ≡ Err r → Taken l e (record { answer = Err r; header = h }) l
+  pub taken_refused : (r : Refusal) → fit l ≡ true → checked e ≡ Err r → Taken l e (Err r) l
   unfolding answer after
-  taken_refused h r f c = made (record { answer = Err r; header = h }) l (rw (f, c)) (rw (f, c))
+  taken_refused r f c = made (Err r) l (rw (f, c)) (rw (f, c))
 
   pub acted_taken :
-      (mandate collection : Option ℕ) (r : Outcome) (l' : Ledger) → fit l ≡ true → checked e ≡ (Ok tt) → FoundFor e l mandate collection
+      (mandate collection : Option ℕ) (r : Result Unit Refusal) (l' : Ledger) → fit l ≡ true → checked e ≡ (Ok tt) → FoundFor e l mandate collection
       → ActedOn mandate collection l e.date (action_of e) r l' → Taken l e r l'
   unfolding answer after
   acted_taken mandate collection r l' f w n d =

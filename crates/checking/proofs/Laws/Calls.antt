@@ -8,22 +8,20 @@ use Prim.Native.Nat.{ℕ, zero, suc}
 use Rattle.common.specs.Checks.{Check, judged}
 use Rattle.common.proofs.Tests.{never, and_halves, not_true}
 use Rattle.refusals.specs.declared.Refusal.{Refusal}
-use Rattle.tables.specs.declared.Header.{Header}
 use Rattle.tables.specs.Ledger.{Ledger}
 use Rattle.model.specs.Step.{is_accepted, after_answer}
-use Rattle.checking.specs.declared.Outcome.{Outcome}
 use Rattle.checking.specs.Calls.{Done}
 
-module _ (answer : Result Unit Refusal) (l changed : Ledger) (h : Header) where
-  pub done_refused : (r : Refusal) → answer ≡ Err r → Done answer l changed (record { answer = Err r; header = h }) l
+module _ (answer : Result Unit Refusal) (l changed : Ledger) where
+  pub done_refused : (r : Refusal) → answer ≡ Err r → Done answer l changed (Err r) l
   done_refused r e = record { answer_is = sym e; after_is = rw e }
 
-  pub done_accepted : (l' : Ledger) → answer ≡ (Ok tt) → l' ≡ changed → Done answer l changed (record { answer = (Ok tt); header = h }) l'
+  pub done_accepted : (l' : Ledger) → answer ≡ (Ok tt) → l' ≡ changed → Done answer l changed (Ok tt) l'
   done_accepted l' e s = record { answer_is = sym e; after_is = rw e s }
 
 -- another wording of the answer, and of the effect where it is accepted
 pub done_same :
-    (answer answer' : Result Unit Refusal) (l changed changed' : Ledger) (r : Outcome) (l' : Ledger)
+    (answer answer' : Result Unit Refusal) (l changed changed' : Ledger) (r : Result Unit Refusal) (l' : Ledger)
     → answer ≡ answer' → (answer ≡ (Ok tt) → changed ≡ changed')
     → Done answer l changed r l' → Done answer' l changed' r l'
 done_same answer answer' l changed changed' r l' e f d = record {

@@ -29,9 +29,8 @@ use Rattle.model.specs.Deadlines.{kept_due}
 use Rattle.model.specs.Lookups.{is_known, in_row, mandate_of, collection_of}
 use Rattle.model.specs.Checks.{ruled}
 use Rattle.model.specs.Effects.{effect, presented_on, new_collection}
-use Rattle.checking.specs.declared.Outcome.{Outcome}
 use Rattle.checking.specs.Calls.{is_found, used_row, Done}
-use Rattle.checking.proofs.Laws.Calls.{done_same, judged_passes, then_answer, judged_then}
+use Rattle.checking.proofs.Laws.Calls.{done_refused, done_accepted, done_same, judged_passes, then_answer, judged_then}
 use Rattle.records.specs.Records.{mandate_terms, date_terms, verdict_by, standing_after, mandate_in, collect_judged, creditor_checks, creditor_answer, CreditorAdded, mandate_checks, mandate_answer, MandateAdded, change_checks, change_answer, change_effect, MandateChanged, collect_checks, collect_answer, collect_effect, Collected}
 
 -- ---- what an accepted event passed
@@ -63,6 +62,18 @@ pub verdict_refuse : (a : Result Unit Refusal) (due : ℕ) (r : Refusal) → ver
 verdict_refuse (Ok tt) due r e = let z : ◌≡◌ {A = ℕ} 0 1 = cc in absurd (omega arith)
 verdict_refuse (Err x) due r e = cc
 
+module _ (mandate collection : Option ℕ) (l : Ledger) (date : ℕ) (p : Presentation) where
+  pub collected_refused :
+      (x : Refusal) (r : Result Unit Refusal) → verdict_by (collect_answer mandate collection l date p) (kept_due p.requested) ≡ Err x
+      → r ≡ Err x → Collected mandate collection l date p r l
+  collected_refused x r e f =
+      rw f (done_refused _ l _ x (verdict_refuse (collect_answer mandate collection l date p) (kept_due p.requested) x e))
+
+  pub collected_done :
+      (due : ℕ) (l' : Ledger) → verdict_by (collect_answer mandate collection l date p) (kept_due p.requested) ≡ Ok due
+      → l' ≡ collect_effect mandate l date p → Collected mandate collection l date p (Ok tt) l'
+  collected_done due l' e f = done_accepted _ _ _ l' (verdict_go (collect_answer mandate collection l date p) (kept_due p.requested) due e).0 f
+
 -- ---- the records that are written
 
 module _ (p : Presentation) (m : Mandate) (due : ℕ) (e : due ≡ kept_due p.requested) where
@@ -88,7 +99,7 @@ is_known_collection : (l : Ledger) (number : ℕ) → is_known (collection_of l 
 unfolding collection_of
 is_known_collection l number = is_known_row (lookup l.collections l.collections_used number) (collection_at l.collections)
 
-module _ (l : Ledger) (date : ℕ) (r : Outcome) (l' : Ledger) where
+module _ (l : Ledger) (date : ℕ) (r : Result Unit Refusal) (l' : Ledger) where
   pub creditor_ruled : (number bank : ℕ) → 1 ≤ number → number ≤ length l.creditors → CreditorAdded l date number bank r l' → Done (ruled l date (AddCreditor number bank)) l (effect l date (AddCreditor number bank)) r l'
   unfolding ruled effect
   creditor_ruled number bank h k d =
@@ -118,7 +129,7 @@ module _ (l : Ledger) (date number : ℕ) (c : Change) where
   change_effect_lem (Some row) e a = rw e
 
 pub change_ruled :
-    (l : Ledger) (date : ℕ) (r : Outcome) (l' : Ledger) (found : Option ℕ) (number : ℕ) (c : Change)
+    (l : Ledger) (date : ℕ) (r : Result Unit Refusal) (l' : Ledger) (found : Option ℕ) (number : ℕ) (c : Change)
     → found ≡ lookup l.mandates l.mandates_used number
     → MandateChanged found l date c r l' → Done (ruled l date (ChangeMandate number c)) l (effect l date (ChangeMandate number c)) r l'
 change_ruled l date r l' found number c e d =
@@ -142,7 +153,7 @@ module _ (l : Ledger) (date : ℕ) (p : Presentation) where
   collect_effect_lem (Some row) g e a = rw e
 
 pub collect_ruled :
-    (l : Ledger) (date : ℕ) (r : Outcome) (l' : Ledger) (mandate collection : Option ℕ) (p : Presentation)
+    (l : Ledger) (date : ℕ) (r : Result Unit Refusal) (l' : Ledger) (mandate collection : Option ℕ) (p : Presentation)
     → mandate ≡ lookup l.mandates l.mandates_used p.mandate → collection ≡ lookup l.collections l.collections_used p.collection
     → Collected mandate collection l date p r l' → Done (ruled l date (Collect p)) l (effect l date (Collect p)) r l'
 collect_ruled l date r l' mandate collection p e q d =

@@ -49,7 +49,6 @@ use Rattle.model.specs.Lookups.{collection_of}
 use Rattle.model.specs.Checks.{is_settled, settled_on, state_fits, time_treated, ruled}
 use Rattle.model.specs.Deadlines.{core, period_of, last_day, in_time, days_since}
 use Rattle.model.specs.Effects.{treated, undone, effect}
-use Rattle.checking.specs.declared.Outcome.{Outcome}
 use Rattle.checking.specs.Calls.{used_row, found_row, Done}
 use Rattle.checking.proofs.Laws.Calls.{done_same, judged_passes}
 use Rattle.treatments.specs.declared.verdicts.Verdict.{Verdict}
@@ -328,7 +327,7 @@ module _ (l : Ledger) (date number : ℕ) (t : Treatment) (f : fit l ≡ true) (
       goes l date number row e f (leb-true l.latest date (passed 0)) t a (passed 3) (passed 5)
 
   pub treat_ruled :
-      (r : Outcome) (l' : Ledger) (found : Option ℕ) → found ≡ lookup l.collections l.collections_used number
+      (r : Result Unit Refusal) (l' : Ledger) (found : Option ℕ) → found ≡ lookup l.collections l.collections_used number
       → Treated found l date t r l' → Done (ruled l date (Treat number t)) l (effect l date (Treat number t)) r l'
   treat_ruled r l' found e d =
       let k = collection_at l.collections (found_row found) in

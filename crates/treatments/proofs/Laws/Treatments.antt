@@ -1,6 +1,6 @@
 -- Laws of specs/Treatments: what is written for a verdict. To cite: `sum_fits`, `sum_back`, `amount_back`, `paid_within`, `written`, `treat_refused`,
 -- `treat_marked`, `treat_paid`. Assumes nothing.
-use Rattle.std.proofs.Common.{Err, Ok, Option, ℕ}
+use Rattle.std.proofs.Common.{Err, Ok, Option, ℕ, Result}
 use mathlib.Core.Path.{◌≡◌, refl}
 use mathlib.Core.Bool.{Bool, true}
 use mathlib.Core.List.{List, [], ◌∷◌}
@@ -23,7 +23,6 @@ use Rattle.tables.specs.Ledger.{Ledger, ledger}
 use Rattle.tables.specs.Rows.{put_collection}
 use Rattle.model.specs.declared.Treatment.{Treatment}
 use Rattle.model.specs.Effects.{dated, keep_collection}
-use Rattle.checking.specs.declared.Outcome.{Outcome}
 use Rattle.checking.specs.Calls.{found_row, Done}
 use Rattle.treatments.specs.declared.verdicts.Verdict.TheVariants.{Refuse, Mark, Post}
 use Rattle.treatments.specs.Treatments.{held, postable, header_after, pay_answer, pay_effect, verdict_at, Treated}
@@ -127,15 +126,15 @@ written h date row k p cs cp dp bp s r cs' cp' dp' mid bp' x y u v w ex ey eu ev
 -- ---- the call, by its verdict
 
 module _ (found : Option ℕ) (l : Ledger) (date : ℕ) (t : Treatment) where
-  pub treat_refused : (h : Header) (r : Refusal) → verdict_at found l date t ≡ Refuse r → Treated found l date t (record { answer = Err r; header = h }) l
+  pub treat_refused : (r : Refusal) → verdict_at found l date t ≡ Refuse r → Treated found l date t (Err r) l
   treat_refused h r e = rw e (record { answer_is = refl; after_is = refl })
 
   pub treat_marked :
       (h : Header) (k : Collection) (l' : Ledger) → verdict_at found l date t ≡ Mark k → l' ≡ keep_collection (dated l date) (found_row found) k
-      → Treated found l date t (record { answer = (Ok tt); header = h }) l'
+      → Treated found l date t (Ok tt) l'
   treat_marked h k l' e q = rw e (record { answer_is = refl; after_is = q })
 
   pub treat_paid :
-      (k : Collection) (p : Postings) (r : Outcome) (l' : Ledger) → verdict_at found l date t ≡ Post k p
+      (k : Collection) (p : Postings) (r : Result Unit Refusal) (l' : Ledger) → verdict_at found l date t ≡ Post k p
       → Done (pay_answer k p l) l (pay_effect (found_row found) date k p l) r l' → Treated found l date t r l'
   treat_paid k p r l' e d = rw e d
