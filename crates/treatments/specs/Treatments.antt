@@ -23,7 +23,7 @@ use Rattle.model.specs.Checks.{settled_on, day_treated, state_fits, due_treated,
 use Rattle.model.specs.Effects.{dated, keep_collection, with_postings, treated}
 use Rattle.checking.specs.Calls.{used_row, found_row, Done}
 use Rattle.treatments.specs.declared.verdicts.Verdict.{Verdict}
-use Rattle.treatments.specs.declared.verdicts.Verdict.TheVariants.{Refuse, Mark, Post}
+use Rattle.treatments.specs.declared.verdicts.Verdict.TheVariants.{Mark, Post}
 use Rattle.calendar.specs.declared.CalendarDays.{CalendarDays}
 
 -- ---- refusals 6 to 17, of the collection k, which is there or not
@@ -64,22 +64,22 @@ undone_of ByReversal amount settled date = reversed_of amount
 -- ---- the verdict
 
 -- amounts outside their limits are those of no fit row and no rate within its limit
-abbrev pub post_verdict : Collection → Option Postings → Verdict
-post_verdict k (Some p) = Post k p
-post_verdict k None = Refuse UnfitMemory
+abbrev pub post_verdict : Collection → Option Postings → Result Verdict Refusal
+post_verdict k (Some p) = Ok (Post k p)
+post_verdict k None = Err UnfitMemory
 
 -- on the collection k, where no test refuses
-abbrev pub go_verdict : Treatment → ℕ → Collection → Verdict
+abbrev pub go_verdict : Treatment → ℕ → Collection → Result Verdict Refusal
 go_verdict Settle date k = post_verdict (treated Settle date k) (settlement_of k.amount)
-go_verdict Reject date k = Mark (treated Reject date k)
+go_verdict Reject date k = Ok (Mark (treated Reject date k))
 go_verdict (Undo way) date k =
     post_verdict (treated (Undo way) date k) (undone_of way k.amount (settled_on k.state) date)
 
-abbrev pub by_answer : Result Unit Refusal → Verdict → Verdict
+abbrev pub by_answer : Result Unit Refusal → Result Verdict Refusal → Result Verdict Refusal
 by_answer (Ok tt) v = v
-by_answer (Err r) v = Refuse r
+by_answer (Err r) v = Err r
 
-abbrev pub verdict_on : ℕ → ℕ → Treatment → Bool → Collection → Verdict
+abbrev pub verdict_on : ℕ → ℕ → Treatment → Bool → Collection → Result Verdict Refusal
 verdict_on latest date t there k = by_answer (treat_judged latest date t there k) (go_verdict t date k)
 
 -- ---- what is written for a verdict
@@ -114,15 +114,15 @@ pay_answer k p l =
 abbrev pub pay_effect : ℕ → ℕ → Collection → Postings → Ledger → Ledger
 pay_effect row date k p l = with_postings (keep_collection (dated l date) row k) k p
 
-abbrev pub answer_for : Verdict → Ledger → Result Unit Refusal
-answer_for (Refuse r) l = Err r
-answer_for (Mark k) l = (Ok tt)
-answer_for (Post k p) l = pay_answer k p l
+abbrev pub answer_for : Result Verdict Refusal → Ledger → Result Unit Refusal
+answer_for (Err r) l = Err r
+answer_for (Ok (Mark k)) l = Ok tt
+answer_for (Ok (Post k p)) l = pay_answer k p l
 
-abbrev pub effect_for : Verdict → ℕ → ℕ → Ledger → Ledger
-effect_for (Refuse r) row date l = l
-effect_for (Mark k) row date l = keep_collection (dated l date) row k
-effect_for (Post k p) row date l = pay_effect row date k p l
+abbrev pub effect_for : Result Verdict Refusal → ℕ → ℕ → Ledger → Ledger
+effect_for (Err r) row date l = l
+effect_for (Ok (Mark k)) row date l = keep_collection (dated l date) row k
+effect_for (Ok (Post k p)) row date l = pay_effect row date k p l
 
 -- the event's date is the latest one, and cents are added to the total compensation
 abbrev pub header_after : Header → ℕ → ℤ → Header
@@ -135,7 +135,7 @@ header_after h date cents = record {
 
 -- ---- the call
 
-abbrev pub verdict_at : Option ℕ → Ledger → ℕ → Treatment → Verdict
+abbrev pub verdict_at : Option ℕ → Ledger → ℕ → Treatment → Result Verdict Refusal
 verdict_at found l date t =
     verdict_on l.latest date t (used_row l.collections l.collections_used found) (collection_at l.collections (found_row found))
 

@@ -5,20 +5,16 @@ ghost use Rattle.treatments.specs.Treatments.{refund_after, undone_of};
 
 use calendar::periods::days_between;
 use model::Way;
-use positions::amounts::{refunded, reversed};
 use positions::Postings;
+use positions::amounts::{refunded, reversed};
 use positions::compensation::compensation;
 
 // The postings of a refund, with its compensation.
 fn refund(amount: u64, rate: u64, settled: u64, date: u64) -> Option<Postings>
     ensures { result ≡ refund_after amount rate (days_between settled date) }
 {
-    let Some(days) = days_between(settled, date) else {
-        return None;
-    };
-    let Some(cents) = compensation(amount, rate, days.0) else {
-        return None;
-    };
+    let days = days_between(settled, date)?;
+    let cents = compensation(amount, rate, days.0)?;
     refunded(amount, cents)
 }
 
@@ -27,8 +23,7 @@ pub fn undone(way: Way, amount: u64, settled: u64, date: u64) -> Option<Postings
     ensures { result ≡ undone_of way amount settled date }
 {
     match way {
-        Way::ByReturn => reversed(amount),
+        Way::ByReturn | Way::ByReversal => reversed(amount),
         Way::ByRefund(rate, _) => refund(amount, rate, settled, date),
-        Way::ByReversal => reversed(amount),
     }
 }

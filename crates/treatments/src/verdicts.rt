@@ -13,13 +13,11 @@ use model::{Treatment, Way};
 use positions::amounts::settlement;
 use positions::Postings;
 use refusals::Refusal;
-use tables::anew::with_state;
 use tables::{Collection, State, Undoing};
 
-// Refuse; or write the collection to its row, alone or with the amounts to post.
+// Write the collection to its row, alone or with the amounts to post.
 #[derive(Clone, Copy)]
 pub enum Verdict {
-    Refuse(Refusal),
     Mark(Collection),
     Post(Collection, Postings),
 }
@@ -29,32 +27,21 @@ fn day_fits(t: Treatment, date: u64) -> bool
     ensures { result ≡ day_treated t date }
 {
     match t {
-        Treatment::Settle => is_business_day(date),
+        Treatment::Settle | Treatment::Undo(_) => is_business_day(date),
         Treatment::Reject => true,
-        Treatment::Undo(_) => is_business_day(date),
     }
 }
 
 fn is_presented(s: State) -> bool
     ensures { result ≡ is_presented s }
 {
-    match s {
-        State::Presented => true,
-        State::Rejected => false,
-        State::Settled(_) => false,
-        State::Undone(_, _) => false,
-    }
+    s == State::Presented
 }
 
 fn is_settled(s: State) -> bool
     ensures { result ≡ is_settled s }
 {
-    match s {
-        State::Presented => false,
-        State::Rejected => false,
-        State::Settled(_) => true,
-        State::Undone(_, _) => false,
-    }
+    matches!(s, State::Settled(_))
 }
 
 // The settled day, 0 of a collection that is not settled.
@@ -62,10 +49,8 @@ fn settled_on(s: State) -> u64
     ensures { result ≡ settled_on s }
 {
     match s {
-        State::Presented => 0,
-        State::Rejected => 0,
         State::Settled(day) => day,
-        State::Undone(_, _) => 0,
+        State::Presented | State::Rejected | State::Undone(_, _) => 0,
     }
 }
 
@@ -74,8 +59,7 @@ fn state_fits(t: Treatment, s: State) -> bool
     ensures { result ≡ state_fits t s }
 {
     match t {
-        Treatment::Settle => is_presented(s),
-        Treatment::Reject => is_presented(s),
+        Treatment::Settle | Treatment::Reject => is_presented(s),
         Treatment::Undo(_) => is_settled(s),
     }
 }
@@ -86,8 +70,7 @@ fn due_fits(t: Treatment, due: u64, date: u64) -> bool
 {
     match t {
         Treatment::Settle => due <= date,
-        Treatment::Reject => true,
-        Treatment::Undo(_) => true,
+        Treatment::Reject | Treatment::Undo(_) => true,
     }
 }
 
@@ -96,8 +79,7 @@ fn time_fits(t: Treatment, s: State, date: u64) -> bool
     ensures { result ≡ time_treated t s date }
 {
     match t {
-        Treatment::Settle => true,
-        Treatment::Reject => true,
+        Treatment::Settle | Treatment::Reject => true,
         Treatment::Undo(way) => is_in_time(way, settled_on(s), date),
     }
 }
@@ -123,22 +105,25 @@ fn state_after(t: Treatment, date: u64) -> State
 }
 
 // The collection in its new state.
+#[tactic(auto, unfolding(model::specs::Effects::treated))]
 fn treated(t: Treatment, date: u64, k: Collection) -> Collection
     ensures { result ≡ treatedBy t date k }
 {
-    with_state(k, state_after(t, date))
+    Collection {
+        state: state_after(t, date),
+        ..k
+    }
 }
 
 // Refusals 6 to 16, of the collection in the row that was found.
 fn judge_first(latest: u64, date: u64, t: Treatment, there: bool, k: Collection) -> Result<(), Refusal>
     ensures { result ≡ judged (first_checks latest date t there k) (Ok tt) }
 {
-    let s = k.state;
     let mut tests = none_fails();
     tests.order = latest <= date;
     tests.day = day_fits(t, date);
     tests.there = there;
-    tests.state = state_fits(t, s);
+    tests.state = state_fits(t, k.state);
     tests.due = due_fits(t, k.due, date);
     first_failing(tests)
 }
@@ -147,9 +132,8 @@ fn judge_first(latest: u64, date: u64, t: Treatment, there: bool, k: Collection)
 fn judge_last(date: u64, t: Treatment, k: Collection) -> Result<(), Refusal>
     ensures { result ≡ judged (last_checks date t k) (Ok tt) }
 {
-    let s = k.state;
     let mut tests = none_fails();
-    tests.last = time_fits(t, s, date);
+    tests.last = time_fits(t, k.state, date);
     first_failing(tests)
 }
 
@@ -157,41 +141,42 @@ fn judge_last(date: u64, t: Treatment, k: Collection) -> Result<(), Refusal>
 fn judge(latest: u64, date: u64, t: Treatment, there: bool, k: Collection) -> Result<(), Refusal>
     ensures { result ≡ treat_judged latest date t there k }
 {
-    match judge_first(latest, date, t, there, k) {
-        Err(r) => Err(r),
-        Ok(()) => judge_last(date, t, k),
-    }
+    judge_first(latest, date, t, there, k)?;
+    judge_last(date, t, k)
 }
 
 // The verdict to post; no row of a fit table has amounts outside their limits, at a rate within its own.
-fn post_verdict(k: Collection, p: Option<Postings>) -> Verdict
+fn post_verdict(k: Collection, p: Option<Postings>) -> Result<Verdict, Refusal>
     ensures { result ≡ post_verdict k p }
 {
-    match p {
-        Some(amounts) => Verdict::Post(k, amounts),
-        None => Verdict::Refuse(Refusal::UnfitMemory),
-    }
+    let amounts = p.ok_or(Refusal::UnfitMemory)?;
+    Ok(Verdict::Post(k, amounts))
 }
 
 // The verdict on a collection that no test refuses.
-fn go_verdict(t: Treatment, date: u64, k: Collection) -> Verdict
+fn go_verdict(t: Treatment, date: u64, k: Collection) -> Result<Verdict, Refusal>
     ensures { result ≡ go_verdict t date k }
 {
     let next = treated(t, date, k);
-    let s = k.state;
     match t {
         Treatment::Settle => post_verdict(next, settlement(k.amount)),
-        Treatment::Reject => Verdict::Mark(next),
-        Treatment::Undo(way) => post_verdict(next, undone(way, k.amount, settled_on(s), date)),
+        Treatment::Reject => Ok(Verdict::Mark(next)),
+        Treatment::Undo(way) => {
+            post_verdict(next, undone(way, k.amount, settled_on(k.state), date))
+        }
     }
 }
 
 // The verdict on the collection in the row that was found.
-pub fn verdict_on(latest: u64, date: u64, t: Treatment, there: bool, k: Collection) -> Verdict
+pub fn verdict_on(
+    latest: u64,
+    date: u64,
+    t: Treatment,
+    there: bool,
+    k: Collection,
+) -> Result<Verdict, Refusal>
     ensures { result ≡ verdict_on latest date t there k }
 {
-    match judge(latest, date, t, there, k) {
-        Err(r) => Verdict::Refuse(r),
-        Ok(()) => go_verdict(t, date, k),
-    }
+    judge(latest, date, t, there, k)?;
+    go_verdict(t, date, k)
 }

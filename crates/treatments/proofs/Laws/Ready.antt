@@ -255,11 +255,11 @@ pub record Asked (t : Treatment) (date : ℕ) : Type 0 where
   pub in_range_lem : in_range date ≡ true
   pub rated : (way : Way) → t ≡ Undo way → rate_of way ≤ rate_limit
 
-answer_by : (a : Result Unit Refusal) (v : Verdict) (l : Ledger) → (a ≡ (Ok tt) → answer_for v l ≡ (Ok tt)) → answer_for (by_answer a v) l ≡ a
+answer_by : (a : Result Unit Refusal) (v : Result Verdict Refusal) (l : Ledger) → (a ≡ (Ok tt) → answer_for v l ≡ (Ok tt)) → answer_for (by_answer a v) l ≡ a
 answer_by (Ok tt) v l h = h refl
 answer_by (Err r) v l h = refl
 
-effect_by : (a : Result Unit Refusal) (v : Verdict) (row date : ℕ) (l : Ledger) → a ≡ (Ok tt) → effect_for (by_answer a v) row date l ≡ effect_for v row date l
+effect_by : (a : Result Unit Refusal) (v : Result Verdict Refusal) (row date : ℕ) (l : Ledger) → a ≡ (Ok tt) → effect_for (by_answer a v) row date l ≡ effect_for v row date l
 effect_by a v row date l e = rw e
 
 module _ (l : Ledger) (date number : ℕ) (t : Treatment) where

@@ -24,7 +24,7 @@ use Rattle.tables.specs.Rows.{put_collection}
 use Rattle.model.specs.declared.Treatment.{Treatment}
 use Rattle.model.specs.Effects.{dated, keep_collection}
 use Rattle.checking.specs.Calls.{found_row, Done}
-use Rattle.treatments.specs.declared.verdicts.Verdict.TheVariants.{Refuse, Mark, Post}
+use Rattle.treatments.specs.declared.verdicts.Verdict.TheVariants.{Mark, Post}
 use Rattle.treatments.specs.Treatments.{held, postable, header_after, pay_answer, pay_effect, verdict_at, Treated}
 
 -- ---- two signed numbers, as 64 bits hold them
@@ -126,15 +126,15 @@ written h date row k p cs cp dp bp s r cs' cp' dp' mid bp' x y u v w ex ey eu ev
 -- ---- the call, by its verdict
 
 module _ (found : Option ℕ) (l : Ledger) (date : ℕ) (t : Treatment) where
-  pub treat_refused : (r : Refusal) → verdict_at found l date t ≡ Refuse r → Treated found l date t (Err r) l
-  treat_refused h r e = rw e (record { answer_is = refl; after_is = refl })
+  pub treat_refused : (r : Refusal) → verdict_at found l date t ≡ Err r → Treated found l date t (Err r) l
+  treat_refused r e = rw e (record { answer_is = refl; after_is = refl })
 
   pub treat_marked :
-      (h : Header) (k : Collection) (l' : Ledger) → verdict_at found l date t ≡ Mark k → l' ≡ keep_collection (dated l date) (found_row found) k
+      (k : Collection) (l' : Ledger) → verdict_at found l date t ≡ Ok (Mark k) → l' ≡ keep_collection (dated l date) (found_row found) k
       → Treated found l date t (Ok tt) l'
-  treat_marked h k l' e q = rw e (record { answer_is = refl; after_is = q })
+  treat_marked k l' e q = rw e (record { answer_is = refl; after_is = q })
 
   pub treat_paid :
-      (k : Collection) (p : Postings) (r : Result Unit Refusal) (l' : Ledger) → verdict_at found l date t ≡ Post k p
+      (k : Collection) (p : Postings) (r : Result Unit Refusal) (l' : Ledger) → verdict_at found l date t ≡ Ok (Post k p)
       → Done (pay_answer k p l) l (pay_effect (found_row found) date k p l) r l' → Treated found l date t r l'
   treat_paid k p r l' e d = rw e d
