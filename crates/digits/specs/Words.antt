@@ -1,21 +1,12 @@
 -- Vocabulary of the private contracts of src/reading.rt, which read eight columns at a time. No promise and no public contract cites
 -- it: what a field says stands in specs/Field alone. Assumes nothing.
-use Rattle.std.specs.Prelude.{ℕ, zero, suc, ◌+◌, ◌-◌, ◌*◌, ◌/◌, ◌%◌, Bool, true, cond, ◌&&◌, List, [], ◌∷◌, leb, ltb, eqb, Option, Some, None}
+use Rattle.std.specs.Prelude.{ℕ, zero, suc, ◌+◌, ◌-◌, ◌*◌, ◌/◌, ◌%◌, Bool, true, cond, ◌&&◌, List, [], ◌∷◌, leb, eqb, Option, Some, None}
 use Rattle.digits.specs.Field.{zero_digit, is_digit, read_digits, read_field}
 
 -- the n bytes of a word, the lowest first
 unfoldable pub bytes_of : ℕ → ℕ → List ℕ
 bytes_of zero w = []
 bytes_of (suc n) w = (w % 256) ∷ bytes_of n (w / 256)
-
--- more than every number of twelve digits
-abbrev pub none : ℕ
-none = 1000000000000
-
--- the number of a field, or `none`
-abbrev pub number_in : Option ℕ → ℕ
-number_in (Some v) = v
-number_in None = none
 
 unfoldable pub are_digits : List ℕ → Bool
 are_digits [] = true
@@ -26,10 +17,15 @@ unfoldable pub digits_from : ℕ → List ℕ → ℕ
 digits_from v [] = v
 digits_from v (b ∷ bs) = digits_from (v * 10 + (b - zero_digit)) bs
 
--- the number of digits if it is not below `least`, else `none`
-abbrev pub led_by : ℕ → List ℕ → ℕ
-led_by least bs = cond (are_digits bs && leb least (digits_from 0 bs)) (digits_from 0 bs) none
+-- the number of digits if it is not below `least`
+abbrev pub led_by : ℕ → List ℕ → Option ℕ
+led_by least bs = cond (are_digits bs && leb least (digits_from 0 bs)) (Some (digits_from 0 bs)) None
 
--- what is read of columns up to the right edge, after columns that came to v: to 0 where they are blanks, else to a number or `none`
+-- what is read of columns up to the right edge, after columns that came to v: to 0 where they are blanks
 unfoldable pub onward : ℕ → List ℕ → Option ℕ
-onward v bs = cond (eqb v 0) (read_field bs) (cond (ltb v none) (read_digits v bs) None)
+onward v bs = cond (eqb v 0) (read_field bs) (read_digits v bs)
+
+-- the same after columns of which no number may begin
+abbrev pub onward_of : Option ℕ → List ℕ → Option ℕ
+onward_of (Some v) bs = onward v bs
+onward_of None bs = None

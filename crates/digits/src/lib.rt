@@ -14,8 +14,5 @@ pub const BLANK: u8 = 32;
 pub fn has_room(long: usize, at: usize, bytes: usize) -> bool
     ensures { result ≡ has_room at bytes long }
 {
-    if long < bytes {
-        return false;
-    }
-    at <= long - bytes
+    bytes <= long && at <= long - bytes
 }

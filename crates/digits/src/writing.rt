@@ -25,18 +25,17 @@ fn put_field(out: &mut [u8], at: usize, width: usize, sign: u8, v: u64)
     requires { (1 ≤ width) × (at + width ≤ length out.old) }
     ensures { out.new ≡ pasted at (signed_field width sign v) out.old }
 {
-    let mut i = at + width - 1;
+    let edge = at + width - 1;
+    out[edge] = last_digit(v);
     let mut rest = v / 10;
     let mut fill = sign;
-    out[i] = last_digit(v);
-    while at < i {
-        i -= 1;
+    for i in (at..edge).rev() {
         if rest == 0 {
             out[i] = fill;
             fill = BLANK;
         } else {
             out[i] = last_digit(rest);
-            rest = rest / 10;
+            rest /= 10;
         }
     }
 }

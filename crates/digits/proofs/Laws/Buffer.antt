@@ -11,7 +11,7 @@ use Prim.Native.Nat.{ℕ, suc, ◌+◌, ◌-◌, ◌/◌, ◌≤◌, ◌<◌}
 use native.Mathlib.Nat.{add-zero}
 use native.Mathlib.Numerals.{add-one}
 use native.Mathlib.Omega.{arith}
-use borrow.Author.Tests.{le-leb, lt-leb, leb-true, leb-false, ltb-true, ltb-false}
+use borrow.Author.Tests.{le-leb, leb-true, ltb-true, ltb-false}
 use lib.Dec.{leb, ltb}
 use lib.ListN.{length, take, drop, set, length-append, length-drop, take-append-drop}
 use lib.Seq.{length-take-le, take-append-le, take-take, take_at, drop_at, drop-drop, drop-cons, set_split, take-set-le, lt-length-set, get_or-set_same, drop-set-lt}
@@ -19,24 +19,7 @@ use Rattle.common.proofs.Tests.{and_halves, true_or_false}
 use Rattle.digits.specs.Field.{blank, last_digit, signed_padded, signed_field, read_field, has_room, field_at, pasted, put_at}
 use Rattle.digits.proofs.Laws.Field.{signed_padded_none, signed_padded_more, length_signed_field}
 
--- ---- the room
-
-pub room_short : (at n long : ℕ) → long < n → leb (at + n) long ≡ false
-room_short at n long h = lt-leb (at + n) long (omega arith)
-
-pub room_test : (at n long : ℕ) → n ≤ long → leb at (long - n) ≡ leb (at + n) long
-room_test at n long h =
-    ⊎_elim
-    (λ t. t ∙ sym (le-leb (at + n) long (omega (arith, leb-true at (long - n) t))))
-    (λ t. t ∙ sym (lt-leb (at + n) long (omega (arith, leb-false at (long - n) t))))
-    (true_or_false (leb at (long - n)))
-
 -- ---- a field at a place
-
-pub room_facts : (at w long : ℕ) → ltb 0 w && has_room at w long ≡ true → (1 ≤ w) × (at + w ≤ long)
-room_facts at w long e =
-    let p = and_halves (ltb 0 w) e in
-    (ltb-true 0 w p.0, leb-true (at + w) long p.1)
 
 module _ (at w : ℕ) (l : List ℕ) where
   pub field_facts : ltb 0 w && leb w 12 && has_room at w (length l) ≡ true → (at + w ≤ length l) × (1 ≤ w) × (w ≤ 12)

@@ -10,15 +10,10 @@ use Prim.Native.Nat.{ℕ, zero, suc, ◌+◌, ◌-◌, ◌*◌, ◌/◌, ◌^◌
 use native.Mathlib.Nat.{pow-succ', one-le-pow, eq-zero-or-pos, eq-or-lt_of_le, add-zero}
 use native.Mathlib.Omega.{arith}
 use lib.Dec.{leb, ltb, eqb, lit<}
-use lib.IntN.{ℤ, pos, negsuc}
-use lib.Signed.{lt_z}
 use lib.ListN.{length, length-append}
-use mir.Syntax.{w64}
-use mir.Val.{to_z, of_z, SFits}
-use mir.Facts.{to_z-of_z}
-use borrow.Author.Tests.{leb-true, le-leb, ltb-true, lt-ltb, eqb-true, eqb-false, eq-eqb, ne_eqb}
+use borrow.Author.Tests.{leb-true, le-leb, lt-ltb, eqb-true, eqb-false, eq-eqb, ne_eqb}
 use Rattle.common.proofs.Tests.{never, and_halves, and_true, true_or_false, false_unless}
-use Rattle.digits.specs.Field.{blank, minus, zero_digit, last_digit, signed_padded, signed_field, field_bytes, sign_of, is_digit, read_digits, read_number, read_field}
+use Rattle.digits.specs.Field.{blank, zero_digit, last_digit, signed_padded, signed_field, field_bytes, is_digit, read_digits, read_number, read_field}
 
 -- ---- powers of ten
 
@@ -368,13 +363,3 @@ field_bytes_read_field l v e = (read_field_reads l v e).bytes
 -- a field has no more digits than columns
 pub read_field_narrow : (l : List ℕ) (v : ℕ) → read_field l ≡ Some v → v < 10 ^ length l
 read_field_narrow l v e = (read_field_reads l v e).narrow
-
--- ---- signs of 64 bits
-
-pub sign_minus : (z : ℤ) → SFits w64 z → lt_z (to_z w64 (of_z w64 z)) (pos 0) ≡ true → minus ≡ sign_of z
-sign_minus (pos n) f t = absurd (omega (arith, ltb-true n 0 (rw (to_z-of_z f) at t)))
-sign_minus (negsuc n) f t = refl
-
-pub sign_blank : (z : ℤ) → SFits w64 z → lt_z (to_z w64 (of_z w64 z)) (pos 0) ≡ false → blank ≡ sign_of z
-sign_blank (pos n) f t = refl
-sign_blank (negsuc n) f t = absurd (never refl (rw (to_z-of_z f) at t))

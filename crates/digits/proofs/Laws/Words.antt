@@ -1,27 +1,31 @@
--- Laws of specs/Words. To cite: `half_take`, `word_take` (the bytes of a line, put together), `high_no`, `high_fits`, `high_yes`
--- (the test for eight digits), `value_fits`, `value_pairs` (their number by pairs), `blanks_led`, `blanks_last` (a field of eight columns),
--- `next_is`, `head_start`, `head_step`, `head_done`, `digits_step` (its first columns), `field_last`, `field_word` (those to its right edge), `last-..` and `tail-..` (its
--- number), `answer_read` (its answer). Assumes nothing.
-use Rattle.std.proofs.Common.{None, Option, Some, ℕ}
+-- Laws of specs/Words. To cite: `high_no`, `high_fits`, `high_yes` (the test for eight digits), `value_fits`, `value_pairs` (their number by
+-- pairs), `blanks_led`, `blanks_last` (a field of eight columns), `word_take` (eight bytes of a line, put together), `next_is` (one
+-- column), `columns_none`, `columns_read` (columns that others follow), `last-..`, `eight_below` and `tail-..` (those to the right edge). Assumes
+-- nothing.
+use Rattle.std.proofs.Common.{None, Option, Some, IfSome, ℕ}
 use mathlib.Core.Path.{◌≡◌, refl, sym, ap, ◌∙◌, subst}
 use mathlib.Core.Bool.{Bool, true, false, cond, not, ◌&&◌}
 use mathlib.Core.List.{List, [], ◌∷◌, ◌++◌}
 use mathlib.Core.Logic.{⊎_elim}
 use Prim.Native.Nat.{ℕ, zero, suc, ◌+◌, ◌-◌, ◌*◌, ◌/◌, ◌%◌, ◌^◌, ◌≤◌, ◌<◌}
-use native.Mathlib.Nat.{pow-succ', pow-suc, one-le-pow, lt_of_le_of_lt, lt_of_lt_of_le, pow-le-pow_right}
+use native.Mathlib.Nat.{pow-succ', pow-suc, one-le-pow, lt_of_le_of_lt}
 use native.Mathlib.Omega.{arith}
 use lib.Arith.{mod-mul}
 use lib.Bits.{bit_and, and_block, and_le_r}
 use lib.Dec.{leb, ltb, eqb, lit<, lit≤}
-use lib.ListN.{length, take, drop, get_or, length-take, length-append}
-use lib.Seq.{drop-cons, drop-drop, take-add}
-use borrow.Author.Tests.{leb-true, le-leb, lt-leb, ltb-true, ltb-false, lt-ltb, le-ltb, eqb-true, eqb-false, eq-eqb, ne_eqb}
+use lib.ListN.{length, take, drop, get_or, length-take, length-drop}
+use lib.Seq.{drop-cons, drop-drop, take-add, take-take}
+use borrow.Author.Tests.{leb-true, le-leb, lt-leb, ltb-true, ltb-false, lt-ltb, eqb-true, eqb-false, eq-eqb, ne_eqb}
 use denote.Floats.{is_true}
+use Rattle.std.specs.Int.{w64, byte_at, bytes_low_first, from_le_bytes}
+use Rattle.std.proofs.lemmas.Nat.{le_bytes_8}
+use Rattle.std.proofs.lemmas.List.{get_or-take, get_or-drop, get_or_past}
+use Rattle.std.proofs.Math.Nat.{div-div-eq-div-mul}
 use Rattle.common.proofs.Every.{below}
 use Rattle.common.proofs.Tests.{never, and_halves, true_or_false, not_true}
 use Rattle.digits.specs.Field.{blank, zero_digit, is_digit, read_digits, read_number, read_field}
-use Rattle.digits.specs.Words.{bytes_of, none, number_in, are_digits, digits_from, led_by, onward}
-use Rattle.digits.proofs.Laws.Field.{digit_facts, read_field_digit, read_field_narrow}
+use Rattle.digits.specs.Words.{bytes_of, are_digits, digits_from, led_by, onward, onward_of}
+use Rattle.digits.proofs.Laws.Field.{digit_facts, read_field_digit}
 
 -- ---- the bytes of a word
 
@@ -54,22 +58,6 @@ bytes_of_bytes : (n w : ℕ) → Bytes (bytes_of n w)
 unfolding bytes_of
 bytes_of_bytes zero w = tt
 bytes_of_bytes (suc n) w = (omega arith, bytes_of_bytes n (w / 256))
-
--- two halves put together
-word_halves : (a b : ℕ) → a < 2 ^ 32 → b < 2 ^ 32 → bytes_of 8 (a + b * 4294967296) ≡ bytes_of 4 a ++ bytes_of 4 b
-unfolding bytes_of
-word_halves a b ha hb =
-    together _ _ _ _ _ _ _ _ (bytes_of_bytes 4 a) (bytes_of_bytes 4 b) (sym (word_bytes 4 a ha)) (sym (word_bytes 4 b hb))
-  where
-    together : (p q r s t u v w : ℕ)
-        → Bytes (p ∷ q ∷ r ∷ s ∷ [])
-        → Bytes (t ∷ u ∷ v ∷ w ∷ [])
-        → {a b : ℕ}
-        → a ≡ word_of (p ∷ q ∷ r ∷ s ∷ [])
-        → b ≡ word_of (t ∷ u ∷ v ∷ w ∷ [])
-        → bytes_of 8 (a + b * 4294967296) ≡ p ∷ q ∷ r ∷ s ∷ t ∷ u ∷ v ∷ w ∷ []
-    together p q r s t u v w (hp, (hq, (hr, (hs, _)))) h {a} {b} i j =
-        ap (bytes_of 8) (omega arith) ∙ bytes_word (p ∷ q ∷ r ∷ s ∷ t ∷ u ∷ v ∷ w ∷ []) (hp, (hq, (hr, (hs, h))))
 
 -- ---- two words are equal where their bytes are
 
@@ -544,7 +532,7 @@ lead_large r rs n t =
     (digits_above 0 (0 * 10 + (r - zero_digit)) rs (omega arith))
 
 -- a number of at least two columns
-number_led : (r : ℕ) (rs : List ℕ) → 0 < length rs → number_in (read_number (r ∷ rs)) ≡ led_by (10 ^ length rs) (r ∷ rs)
+number_led : (r : ℕ) (rs : List ℕ) → 0 < length rs → read_number (r ∷ rs) ≡ led_by (10 ^ length rs) (r ∷ rs)
 unfolding read_number
 number_led r rs h =
     rw (read_digits_is 0 (r ∷ rs), lt-ltb 0 (length rs) h)
@@ -559,12 +547,12 @@ number_led r rs h =
     (λ (t : are_digits (r ∷ rs) ≡ false). rw t (never_value (eqb r zero_digit)))
     (true_or_false (are_digits (r ∷ rs))))
   where
-    never_value : (z : Bool) → number_in (cond (z && true) None None) ≡ none
+    never_value : (z : Bool) → cond {A = Option ℕ} (z && true) None None ≡ None
     never_value true = refl
     never_value false = refl
 
 -- a single column, with a digit or not
-last_field : (r : ℕ) → number_in (read_field (r ∷ [])) ≡ led_by 0 (r ∷ [])
+last_field : (r : ℕ) → read_field (r ∷ []) ≡ led_by 0 (r ∷ [])
 unfolding read_field read_number read_digits are_digits digits_from
 last_field r =
     ⊎_elim (λ (e : eqb r blank ≡ true). rw (e, blank_no_digit r (eqb-true r blank e)))
@@ -578,21 +566,21 @@ last_field r =
     blank_no_digit : (b : ℕ) → b ≡ blank → is_digit b ≡ false
     blank_no_digit b e = rw e
 
-    one : (t : Bool) → number_in (cond t (Some (0 * 10 + (r - zero_digit))) None) ≡ cond ((t && true) && leb 0 (0 * 10 + (r - zero_digit))) (0 * 10 + (r - zero_digit)) none
+    one : (t : Bool) → cond t (Some (0 * 10 + (r - zero_digit))) None ≡ cond ((t && true) && leb 0 (0 * 10 + (r - zero_digit))) (Some (0 * 10 + (r - zero_digit))) None
     one true = rw (le-leb 0 (0 * 10 + (r - zero_digit)) (omega arith))
     one false = refl
 
-rest_led : (l : List ℕ) (n : ℕ) → length l ≡ suc (suc n) → are_blanks 1 l ≡ false → number_in (read_field l) ≡ led_by (10 ^ suc n) l
+rest_led : (l : List ℕ) (n : ℕ) → length l ≡ suc (suc n) → are_blanks 1 l ≡ false → read_field l ≡ led_by (10 ^ suc n) l
 unfolding are_blanks read_field
 rest_led [] n h e = absurd (omega arith)
 rest_led (r ∷ rs) n h e =
     let m : length rs ≡ suc n = omega arith in
     ⊎_elim (λ (t : eqb r blank ≡ true). absurd (never (rw t) e))
     (λ (t : eqb r blank ≡ false).
-    rw t (subst (λ (j : ℕ). number_in (read_number (r ∷ rs)) ≡ led_by (10 ^ j) (r ∷ rs)) m (number_led r rs (omega arith))))
+    rw t (subst (λ (j : ℕ). read_number (r ∷ rs) ≡ led_by (10 ^ j) (r ∷ rs)) m (number_led r rs (omega arith))))
     (true_or_false (eqb r blank))
 
-rest_last : (l : List ℕ) → length l ≡ 1 → number_in (read_field l) ≡ led_by 0 l
+rest_last : (l : List ℕ) → length l ≡ 1 → read_field l ≡ led_by 0 l
 rest_last [] h = absurd (omega arith)
 rest_last (r ∷ []) h = last_field r
 rest_last (r ∷ s ∷ l) h = absurd (omega arith)
@@ -603,7 +591,7 @@ pub blanks_led : (k n w : ℕ)
     → k + suc (suc n) ≡ 8
     → w % 256 ^ k ≡ word_of (rep k blank [])
     → (w % 256 ^ suc k ≡ word_of (rep (suc k) blank []) → ⊥)
-    → led_by (10 ^ suc n) (bytes_of 8 (w + word_of (rep k 16 []))) ≡ number_in (read_field (bytes_of 8 w))
+    → led_by (10 ^ suc n) (bytes_of 8 (w + word_of (rep k 16 []))) ≡ read_field (bytes_of 8 w)
 unfolding rest
 blanks_led k n w h s e d =
     let b = all_blank k w h (omega arith) e in
@@ -614,298 +602,187 @@ blanks_led k n w h s e d =
     rw b at (sym (blanks_next k (bytes_of 8 w)) ∙ t) in
     filled_led k w h (omega arith) e (10 ^ suc n)
     ∙ sym (rest_led (rest k w h (omega arith) e) n (omega (arith, rest_length k w h (omega arith) e)) u)
-    ∙ ap number_in (sym (blank_field k w h (omega arith) e))
+    ∙ (sym (blank_field k w h (omega arith) e))
 
 -- seven blanks and one column more
 pub blanks_last : (w : ℕ)
     → w < 2 ^ 64
     → w % 256 ^ 7 ≡ word_of (rep 7 blank [])
-    → led_by 0 (bytes_of 8 (w + word_of (rep 7 16 []))) ≡ number_in (read_field (bytes_of 8 w))
+    → led_by 0 (bytes_of 8 (w + word_of (rep 7 16 []))) ≡ read_field (bytes_of 8 w)
 blanks_last w h e =
     filled_led 7 w h (lit≤ tt) e 0
     ∙ sym (rest_last (rest 7 w h (lit≤ tt) e) (omega (arith, rest_length 7 w h (lit≤ tt) e)))
-    ∙ ap number_in (sym (blank_field 7 w h (lit≤ tt) e))
+    ∙ (sym (blank_field 7 w h (lit≤ tt) e))
 
 -- ---- the bytes of a line
 
--- n bytes of a list from a place on, the first k of them passed over
-abbrev from : List ℕ → ℕ → ℕ → ℕ → List ℕ
-from l at k zero = []
-from l at k (suc n) = get_or l (at + k) 0 ∷ from l at (k + 1) n
+bytes_low : (k i n : ℕ) → bytes_low_first i k n ≡ bytes_of k (n / 256 ^ i)
+unfolding bytes_of
+bytes_low zero i n = refl
+bytes_low (suc k) i n =
+    let q : n / 256 ^ suc i ≡ n / 256 ^ i / 256 = ap (λ (m : ℕ). n / m) (pow-suc 256 i) ∙ sym (div-div-eq-div-mul n (256 ^ i) 256) in
+    rw (lowest i, bytes_low k (suc i) n, q)
+  where
+    lowest : (i : ℕ) → byte_at i n ≡ n / 256 ^ i % 256
+    lowest zero = let q : n / 1 ≡ n = omega arith in rw q
+    lowest (suc i) = refl
 
-from_take : (l : List ℕ) (at k n : ℕ) → at + k + n ≤ length l → from l at k n ≡ take n (drop (at + k) l)
-from_take l at k zero h = refl
-from_take l at k (suc n) h =
-    let e : at + (k + 1) ≡ suc (at + k) = omega arith in
-    ap (λ (m : List ℕ). get_or l (at + k) 0 ∷ m) (from_take l at (k + 1) n (omega arith) ∙ ap (λ (i : ℕ). take n (drop i l)) e)
-    ∙ ap (take (suc n)) (sym (drop-cons l (at + k) 0 (omega arith)))
+-- eight bytes put together
+pub word_bytes_are : (bs : List ℕ) (n : ℕ) → length bs ≡ 8 → ((i : ℕ) → get_or bs i 0 < 256) → n ≡ from_le_bytes w64 bs → bytes_of 8 n ≡ bs
+word_bytes_are bs n l small e = ap (bytes_of 8) (omega arith) ∙ sym (bytes_low 8 0 n) ∙ le_bytes_8 bs n l small e
 
--- four bytes of a line, put together
-pub half_take : (l : List ℕ) (at a b c d : ℕ)
-    → at + 4 ≤ length l
-    → (a ≡ get_or l at 0) × (a < 256)
-    → (b ≡ get_or l (at + 1) 0) × (b < 256)
-    → (c ≡ get_or l (at + 2) 0) × (c < 256)
-    → (d ≡ get_or l (at + 3) 0) × (d < 256)
-    → bytes_of 4 (a + b * 256 + c * 65536 + d * 16777216) ≡ take 4 (drop at l)
-half_take l at a b c d s pa pb pc pd =
-    let z : at + 0 ≡ at = omega arith in
-    ap (bytes_of 4) (omega arith)
-    ∙ bytes_word (a ∷ b ∷ c ∷ d ∷ []) (pa.1, (pb.1, (pc.1, (pd.1, tt))))
-    ∙ rw (pa.0, pb.0, pc.0, pd.0)
-    (ap (λ (i : ℕ). get_or l i 0 ∷ from l at 1 3) (sym z) ∙ from_take l at 0 4 (omega arith) ∙ ap (λ (i : ℕ). take 4 (drop i l)) z)
-
--- eight bytes of a line, in halves
-pub word_take : (l : List ℕ) (at a b : ℕ)
-    → (bytes_of 4 a ≡ take 4 (drop at l)) × (a < 2 ^ 32)
-    → (bytes_of 4 b ≡ take 4 (drop (at + 4) l)) × (b < 2 ^ 32)
-    → bytes_of 8 (a + b * 4294967296) ≡ take 8 (drop at l)
-word_take l at a b p q =
-    word_halves a b p.1 q.1
-    ∙ rw (p.0, q.0) (ap (λ (m : List ℕ). take 4 (drop at l) ++ take 4 m) (sym (drop-drop 4 at l)) ∙ sym (take-add 4 4 (drop at l)))
-
--- one column, and those behind it
-pub column : (l : List ℕ) (i n : ℕ) → i < length l → take (suc n) (drop i l) ≡ get_or l i 0 ∷ take n (drop (suc i) l)
-column l i n h = ap (take (suc n)) (drop-cons l i 0 h)
+pub word_take : (l : List ℕ) (at n : ℕ) (bs : List ℕ)
+    → at + 8 ≤ length l
+    → ((i : ℕ) → get_or l i 0 < 256)
+    → bs ≡ take 8 (take (length l - at) (drop at l))
+    → n ≡ from_le_bytes w64 bs
+    → bytes_of 8 n ≡ take 8 (drop at l)
+word_take l at n bs h small e f =
+    let m : length (take (length l - at) (drop at l)) ≡ length l - at = length-take (length l - at) (drop at l) ∙ (let d = length-drop at l in omega arith) in
+    let g : bs ≡ take 8 (drop at l) = e ∙ take-take 8 (length l - at) (drop at l) (omega arith) in
+    let k : length bs ≡ 8 = ap length g ∙ length-take 8 (drop at l) ∙ (let d = length-drop at l in omega arith) in
+    word_bytes_are bs n k (λ i. rw g (below i)) f ∙ g
+  where
+    below : (i : ℕ) → get_or (take 8 (drop at l)) i 0 < 256
+    below i =
+        ⊎_elim
+        (λ (t : ltb i 8 ≡ true). let p : i < 8 = ltb-true i 8 t in rw (get_or-take, get_or-drop) (small (at + i)))
+        (λ (t : ltb i 8 ≡ false).
+        let m = length-take 8 (drop at l) in
+        let p : length (take 8 (drop at l)) ≤ i = omega (arith, ltb-false i 8 t) in
+        rw get_or_past (lit< tt))
+        (true_or_false (ltb i 8))
 
 -- ---- columns that others follow
 
--- what a column b makes of those before it
-abbrev pub next_of : ℕ → ℕ → ℕ
-next_of v b =
-    cond (eqb v 0)
-    (cond (eqb b blank) 0 (cond (is_digit b && not (eqb b zero_digit)) (b - zero_digit) none))
-    (cond (ltb v none && is_digit b) (v * 10 + (b - zero_digit)) none)
-
--- a number goes on in digits
-onward_number : (v : ℕ) (s : List ℕ) → (v ≡ 0 → ⊥) → v < none → onward v s ≡ read_digits v s
+-- digits behind a number
+onward_number : (v : ℕ) (s : List ℕ) → (v ≡ 0 → ⊥) → onward v s ≡ read_digits v s
 unfolding onward
-onward_number v s n h = rw (ne_eqb v 0 n, lt-ltb v none h)
+onward_number v s n = rw (ne_eqb v 0 n)
 
--- no number stays none
-onward_none : (v : ℕ) (s : List ℕ) → none ≤ v → onward v s ≡ None
-unfolding onward
-onward_none v s h = rw (ne_eqb v 0 (λ e. omega arith), le-ltb v none h)
-
--- the first column that is no blank
-lead : (b : ℕ) (s : List ℕ)
-    → 0 < length s
-    → read_number (b ∷ s) ≡ onward (cond (is_digit b && not (eqb b zero_digit)) (b - zero_digit) none) s
-unfolding read_number read_digits
-lead b s h =
+-- one digit
+pub last_digit_lem : (v b : ℕ) → is_digit b ≡ true → onward v (b ∷ []) ≡ Some (v * 10 + (b - zero_digit))
+unfolding onward read_digits
+last_digit_lem v b d =
     ⊎_elim
-    (λ (d : is_digit b ≡ true).
-    ⊎_elim (λ (z : eqb b zero_digit ≡ true). rw (d, z, lt-ltb 0 (length s) h) (sym (onward_none none s (lit≤ tt))))
-    (λ (z : eqb b zero_digit ≡ false).
-    let f = digit_facts b d in
-    let n : ¬ (b ≡ zero_digit) = eqb-false b zero_digit z in
-    rw (d, z)
-    (ap (λ (x : ℕ). read_digits x s) (plain (b - zero_digit)) ∙ sym (onward_number (b - zero_digit) s (λ i. omega arith) (omega arith))))
-    (true_or_false (eqb b zero_digit)))
-    (λ (d : is_digit b ≡ false). rw d (nothing (eqb b zero_digit && ltb 0 (length s)) ∙ sym (onward_none none s (lit≤ tt))))
-    (true_or_false (is_digit b))
-  where
-    plain : (x : ℕ) → 0 * 10 + x ≡ x
-    plain x = omega arith
+    (λ (z : eqb v 0 ≡ true).
+    let e = eqb-true v 0 z in
+    rw (z, read_field_digit b d) (ap Some (omega arith)))
+    (λ (z : eqb v 0 ≡ false). rw (z, d))
+    (true_or_false (eqb v 0))
 
+pub last_other : (v b : ℕ) → is_digit b ≡ false → onward v (b ∷ []) ≡ None
+unfolding onward read_digits are_digits
+last_other v b d =
+    ⊎_elim
+    (λ (z : eqb v 0 ≡ true). rw z (last_field b ∙ rw d))
+    (λ (z : eqb v 0 ≡ false). rw (z, d))
+    (true_or_false (eqb v 0))
+
+-- a column that is a digit, and at least one behind it
+digit_next : (v b : ℕ) (s : List ℕ)
+    → 0 < length s
+    → is_digit b ≡ true
+    → let n = v * 10 + (b - zero_digit) in onward v (b ∷ s) ≡ onward_of (cond (ltb 0 n) (Some n) None) s
+unfolding onward read_field read_number read_digits
+digit_next v b s l d =
+    let f = digit_facts b d in
+    ⊎_elim
+    (λ (z : eqb v 0 ≡ true).
+    let e : v ≡ 0 = eqb-true v 0 z in
+    ⊎_elim
+    (λ (t : eqb b zero_digit ≡ true).
+    let q : v * 10 + (b - zero_digit) ≡ 0 = omega (arith, eqb-true b zero_digit t) in
+    rw (z, q, ne_eqb b blank (λ i. omega arith), t, lt-ltb 0 (length s) l))
+    (λ (t : eqb b zero_digit ≡ false).
+    let m : ¬ (b ≡ zero_digit) = eqb-false b zero_digit t in
+    let q : v * 10 + (b - zero_digit) ≡ 0 + (b - zero_digit) = omega arith in
+    rw (z, q, ne_eqb b blank (λ i. omega arith), t, d, lt-ltb 0 (0 + (b - zero_digit)) (omega arith), ne_eqb (0 + (b - zero_digit)) 0 (λ i. omega arith)))
+    (true_or_false (eqb b zero_digit)))
+    (λ (z : eqb v 0 ≡ false).
+    let m : ¬ (v ≡ 0) = eqb-false v 0 z in
+    rw (z, d, lt-ltb 0 (v * 10 + (b - zero_digit)) (omega arith), ne_eqb (v * 10 + (b - zero_digit)) 0 (λ i. omega arith)))
+    (true_or_false (eqb v 0))
+
+other_next : (v b : ℕ) (s : List ℕ)
+    → eqb v 0 && eqb b blank ≡ false
+    → is_digit b ≡ false
+    → onward v (b ∷ s) ≡ None
+unfolding onward read_field read_number read_digits
+other_next v b s n d =
+    ⊎_elim
+    (λ (z : eqb v 0 ≡ true).
+    rw (z, rw z at n, d) (nothing (eqb b zero_digit && ltb 0 (length s))))
+    (λ (z : eqb v 0 ≡ false). rw (z, d))
+    (true_or_false (eqb v 0))
+  where
     nothing : (t : Bool) → cond {A = Option ℕ} t None None ≡ None
     nothing true = refl
     nothing false = refl
 
--- a column behind a number
-behind : (v b : ℕ) (s : List ℕ)
-    → (v ≡ 0 → ⊥)
-    → (v < none → v < 10 ^ 11)
-    → onward v (b ∷ s) ≡ onward (cond (ltb v none && is_digit b) (v * 10 + (b - zero_digit)) none) s
-unfolding read_digits
-behind v b s n h =
-    ⊎_elim
-    (λ (t : ltb v none ≡ true).
-    let l = ltb-true v none t in
-    let m = h l in
-    onward_number v (b ∷ s) n l
-    ∙ ⊎_elim
-    (λ (d : is_digit b ≡ true).
-    let f = digit_facts b d in
-    rw (t, d) (sym (onward_number (v * 10 + (b - zero_digit)) s (λ i. n (omega arith)) (omega arith))))
-    (λ (d : is_digit b ≡ false). rw (t, d) (sym (onward_none none s (lit≤ tt))))
-    (true_or_false (is_digit b)))
-    (λ (t : ltb v none ≡ false).
-    onward_none v (b ∷ s) (ltb-false v none t) ∙ rw t (sym (onward_none none s (lit≤ tt))))
-    (true_or_false (ltb v none))
+-- what comes of a column b and those before it, which came to v
+abbrev pub next_of : ℕ → ℕ → Option ℕ
+next_of v b =
+    let n = v * 10 + (b - zero_digit) in
+    cond (eqb v 0 && eqb b blank) (Some 0) (cond (is_digit b && ltb 0 n) (Some n) None)
 
--- blanks go on in a blank, or a number begins
-blank_or_lead : (b : ℕ) (s : List ℕ)
-    → 0 < length s
-    → onward 0 (b ∷ s) ≡ onward (cond (eqb b blank) 0 (cond (is_digit b && not (eqb b zero_digit)) (b - zero_digit) none)) s
+pub next_read : (v b : ℕ) (r : Option ℕ) → r ≡ next_of v b → (s : List ℕ) → 0 < length s → onward v (b ∷ s) ≡ onward_of r s
 unfolding onward read_field
-blank_or_lead b s k =
-    ⊎_elim (λ (e : eqb b blank ≡ true). rw e) (λ (e : eqb b blank ≡ false). rw e (lead b s k)) (true_or_false (eqb b blank))
-
--- one column, and at least one behind it
-column_next : (v b : ℕ) (s : List ℕ) → 0 < length s → (v < none → v < 10 ^ 11) → onward v (b ∷ s) ≡ onward (next_of v b) s
-column_next v b s k h =
+next_read v b r e s l =
+    rw e
+    (⊎_elim
+    (λ (t : eqb v 0 && eqb b blank ≡ true). let p = and_halves (eqb v 0) t in rw (t, p.0, p.1))
+    (λ (t : eqb v 0 && eqb b blank ≡ false).
     ⊎_elim
-    (λ (z : eqb v 0 ≡ true).
-    rw z (ap (λ (x : ℕ). onward x (b ∷ s)) (eqb-true v 0 z) ∙ blank_or_lead b s k))
-    (λ (z : eqb v 0 ≡ false). rw z (behind v b s (eqb-false v 0 z) h))
-    (true_or_false (eqb v 0))
+    (λ (d : is_digit b ≡ true). rw (t, d) (digit_next v b s l d))
+    (λ (d : is_digit b ≡ false). rw (t, d) (other_next v b s t d))
+    (true_or_false (is_digit b)))
+    (true_or_false (eqb v 0 && eqb b blank)))
 
 -- a column more is a digit more
-next_digit : (v b : ℕ) → next_of v b < none → (v < none) × (next_of v b < v * 10 + 10)
-next_digit v b =
+pub next_within : (v b : ℕ) (r : Option ℕ) → r ≡ next_of v b → IfSome r (λ x. x < v * 10 + 10)
+next_within v b r e =
+    rw e
+    (⊎_elim
+    (λ (t : eqb v 0 && eqb b blank ≡ true). rw t (omega arith))
+    (λ (t : eqb v 0 && eqb b blank ≡ false).
     ⊎_elim
-    (λ (z : eqb v 0 ≡ true).
-    let e = eqb-true v 0 z in
-    rw z
-    (⊎_elim (λ (k : eqb b blank ≡ true). rw k (λ i. (omega arith, omega arith)))
-    (λ (k : eqb b blank ≡ false).
-    rw k (λ i. (omega arith, first (is_digit b) (not (eqb b zero_digit)) (λ d. let f = digit_facts b d in omega arith) i)))
-    (true_or_false (eqb b blank))))
-    (λ (z : eqb v 0 ≡ false).
-    rw z (more (ltb v none) (is_digit b) (λ l. ltb-true v none l) (λ d. let f = digit_facts b d in omega arith)))
-    (true_or_false (eqb v 0))
-  where
-    first : (d n : Bool)
-        → (d ≡ true → b - zero_digit < v * 10 + 10)
-        → cond (d && n) (b - zero_digit) none < none
-        → cond (d && n) (b - zero_digit) none < v * 10 + 10
-    first true true f i = f refl
-    first true false f i = absurd (omega arith)
-    first false n f i = absurd (omega arith)
+    (λ (d : is_digit b && ltb 0 (v * 10 + (b - zero_digit)) ≡ true). let f = digit_facts b (and_halves (is_digit b) d).0 in rw (t, d) (omega arith))
+    (λ (d : is_digit b && ltb 0 (v * 10 + (b - zero_digit)) ≡ false). rw (t, d) tt)
+    (true_or_false (is_digit b && ltb 0 (v * 10 + (b - zero_digit)))))
+    (true_or_false (eqb v 0 && eqb b blank)))
 
-    more : (l d : Bool)
-        → (l ≡ true → v < none)
-        → (d ≡ true → b - zero_digit ≤ 9)
-        → cond (l && d) (v * 10 + (b - zero_digit)) none < none
-        → (v < none) × (cond (l && d) (v * 10 + (b - zero_digit)) none < v * 10 + 10)
-    more true true f g i = let q = g refl in (f refl, omega arith)
-    more true false f g i = absurd (omega arith)
-    more false d f g i = absurd (omega arith)
-
-pub next_is : (v b r : ℕ)
-    → (v < none → v < 10 ^ 11)
+pub next_is : (v b : ℕ) (r : Option ℕ)
     → r ≡ next_of v b
-    → ((s : List ℕ) → 0 < length s → onward v (b ∷ s) ≡ onward r s) × (r < none → (v < none) × (r < v * 10 + 10))
-next_is v b r h e = rw e ((λ s k. column_next v b s k h), next_digit v b)
+    → ((s : List ℕ) → 0 < length s → onward v (b ∷ s) ≡ onward_of r s) × IfSome r (λ x. x < v * 10 + 10)
+next_is v b r e = (next_read v b r e, next_within v b r e)
 
-pub next_read : (v b r : ℕ) → (v < none → v < 10 ^ 11) → r ≡ next_of v b → (s : List ℕ) → 0 < length s → onward v (b ∷ s) ≡ onward r s
-next_read v b r h e = (next_is v b r h e).0
+-- columns xs, of which the one at i is the last that was read, and no number comes of it
+pub columns_none : (xs ys s : List ℕ) (i v : ℕ)
+    → xs ≡ ys
+    → i < length xs
+    → onward v (drop i xs ++ s) ≡ read_field (xs ++ s)
+    → onward v (get_or xs i 0 ∷ (drop (suc i) xs ++ s)) ≡ None
+    → None ≡ read_field (ys ++ s)
+columns_none xs ys s i v e h p q =
+    sym q ∙ ap (λ (m : List ℕ). onward v (m ++ s)) (sym (drop-cons xs i 0 h)) ∙ p ∙ ap (λ (m : List ℕ). read_field (m ++ s)) e
 
-pub next_within : (v b r : ℕ) → (v < none → v < 10 ^ 11) → r ≡ next_of v b → r < none → (v < none) × (r < v * 10 + 10)
-next_within v b r h e = (next_is v b r h e).1
+-- n columns, of which r comes, and k behind them
+pub columns_read : (l : List ℕ) (at n k width : ℕ) (r : Option ℕ)
+    → ((s : List ℕ) → 0 < length s → onward_of r s ≡ read_field (take n (drop at l) ++ s))
+    → n + k ≡ width
+    → 0 < k
+    → at + width ≤ length l
+    → onward_of r (take k (drop (at + n) l)) ≡ read_field (take width (drop at l))
+columns_read l at n k width r read i j h =
+    read (take k (drop (at + n) l)) (let m = length-take k (drop (at + n) l) in let d = length-drop (at + n) l in omega arith)
+    ∙ ap read_field
+    (ap (λ (m : List ℕ). take n (drop at l) ++ take k m) (sym (drop-drop n at l))
+    ∙ sym (take-add n k (drop at l))
+    ∙ ap (λ (m : ℕ). take m (drop at l)) i)
 
-pub narrower : (w k v : ℕ) → w ≤ k → (v < none → v < 10 ^ w) → v < none → v < 10 ^ k
-narrower w k v l h i = lt_of_lt_of_le (h i) (pow-le-pow_right {n = 10} (lit< tt) {i = w} {j = k} l)
-
--- what is read of columns s behind the first n, after those from i on, which come to v
-abbrev pub Reads : List ℕ → ℕ → ℕ → ℕ → ℕ → Type 0
-Reads l at n i v =
-    (s : List ℕ) → 0 < length s → onward v (take (n - i) (drop (at + i) l) ++ s) ≡ read_field (take n (drop at l) ++ s)
-
-module _ (l : List ℕ) (at n : ℕ) where
-  -- nothing is read yet
-  pub head_start : Reads l at n 0 0
-  unfolding onward
-  head_start s k =
-      let e : n - 0 ≡ n = omega arith in
-      let f : at + 0 ≡ at = omega arith in
-      rw (e, f)
-
-  -- one column more
-  pub head_step : (i v r : ℕ)
-      → i < n
-      → at + n ≤ length l
-      → ((s : List ℕ) → 0 < length s → onward v (get_or l (at + i) 0 ∷ s) ≡ onward r s)
-      → Reads l at n i v
-      → Reads l at n (i + 1) r
-  head_step i v r h k f p s g =
-      let m = take (n - (i + 1)) (drop (at + (i + 1)) l) in
-      let a : n - i ≡ suc (n - (i + 1)) = omega arith in
-      let b : suc (at + i) ≡ at + (i + 1) = omega arith in
-      let c : take (n - i) (drop (at + i) l) ≡ get_or l (at + i) 0 ∷ m =
-      ap (λ (j : ℕ). take j (drop (at + i) l)) a
-      ∙ column l (at + i) (n - (i + 1)) (omega arith)
-      ∙ ap (λ (j : ℕ). get_or l (at + i) 0 ∷ take (n - (i + 1)) (drop j l)) b in
-      sym (f (m ++ s) (omega (arith, length-append m s)))
-      ∙ ap (λ (x : List ℕ). onward v (x ++ s)) (sym c)
-      ∙ p s g
-
-  pub head_done : (i v : ℕ) → n ≤ i → Reads l at n i v → (s : List ℕ) → 0 < length s → onward v s ≡ read_field (take n (drop at l) ++ s)
-  head_done i v h p s k =
-      let e : n - i ≡ 0 = omega arith in
-      ap (λ (j : ℕ). onward v (take j (drop (at + i) l) ++ s)) (sym e) ∙ p s k
-
-pub digits_step : (i v r : ℕ)
-    → (r < none → (v < none) × (r < v * 10 + 10))
-    → (v < none → v < 10 ^ i)
-    → r < none
-    → r < 10 ^ (i + 1)
-digits_step i v r f h k =
-    let p = f k in
-    let q = h p.0 in
-    let t = pow-succ' 10 i in
-    subst (λ (j : ℕ). r < 10 ^ j) (omega arith) (let u : r < 10 ^ suc i = omega (arith, p.1) in u)
-
--- ---- a field by its first columns and those to its right edge
-
--- n columns, which come to v, and k behind them
-module _ (l : List ℕ) (at n v : ℕ) (read : (s : List ℕ) → 0 < length s → onward v s ≡ read_field (take n (drop at l) ++ s)) where
-  columns_parts : (k width : ℕ) → n + k ≡ width → take n (drop at l) ++ take k (drop (at + n) l) ≡ take width (drop at l)
-  columns_parts k width i =
-      ap (λ (m : List ℕ). take n (drop at l) ++ take k m) (sym (drop-drop n at l))
-      ∙ sym (take-add n k (drop at l))
-      ∙ ap (λ (m : ℕ). take m (drop at l)) i
-
-  parts_read : (k width : ℕ) (s : List ℕ)
-      → n + k ≡ width
-      → 0 < length s
-      → s ≡ take k (drop (at + n) l)
-      → number_in (onward v s) ≡ number_in (read_field (take width (drop at l)))
-  parts_read k width s i j q =
-      ap number_in
-      (read s j
-      ∙ ap (λ (x : List ℕ). read_field (take n (drop at l) ++ x)) q
-      ∙ ap read_field (columns_parts k width i))
-
-  -- one column behind them
-  pub field_last : (width : ℕ)
-      → n + 1 ≡ width
-      → at + width ≤ length l
-      → number_in (onward v (get_or l (at + n) 0 ∷ [])) ≡ number_in (read_field (take width (drop at l)))
-  field_last width i k =
-      parts_read 1 width (get_or l (at + n) 0 ∷ []) i (lit< tt) (sym (column l (at + n) 0 (omega arith)))
-
-  -- eight columns behind them, in a word
-  pub field_word : (width w : ℕ)
-      → n + 8 ≡ width
-      → bytes_of 8 w ≡ take 8 (drop (at + n) l)
-      → number_in (onward v (bytes_of 8 w)) ≡ number_in (read_field (take width (drop at l)))
-  field_word width w i q = parts_read 8 width (bytes_of 8 w) i (omega (arith, length_bytes_of 8 w)) q
-
--- ---- the number of a field
-
-module _ (v b : ℕ) where
-  pub last_over : none ≤ v → number_in (onward v (b ∷ [])) ≡ none
-  last_over h = ap number_in (onward_none v (b ∷ []) h)
-
-  pub last_digit_lem : v < none → is_digit b ≡ true → number_in (onward v (b ∷ [])) ≡ v * 10 + (b - zero_digit)
-  unfolding onward read_digits
-  last_digit_lem h d =
-      ⊎_elim
-      (λ (z : eqb v 0 ≡ true).
-      let e = eqb-true v 0 z in
-      rw (z, read_field_digit b d) (omega arith))
-      (λ (z : eqb v 0 ≡ false). rw (z, lt-ltb v none h, d))
-      (true_or_false (eqb v 0))
-
-  pub last_other : v < none → is_digit b ≡ false → number_in (onward v (b ∷ [])) ≡ none
-  unfolding onward read_digits are_digits
-  last_other h d =
-      ⊎_elim
-      (λ (z : eqb v 0 ≡ true). rw z (last_field b ∙ rw d))
-      (λ (z : eqb v 0 ≡ false). rw (z, lt-ltb v none h, d))
-      (true_or_false (eqb v 0))
+pub column : (l : List ℕ) (i : ℕ) → i < length l → take 1 (drop i l) ≡ get_or l i 0 ∷ []
+column l i h = ap (take 1) (drop-cons l i 0 h)
 
 -- digits behind a number: eight columns more
 eight_behind : (v w : ℕ) → digits_from v (bytes_of 8 w) ≡ v * 100000000 + digits_from 0 (bytes_of 8 w)
@@ -923,39 +800,10 @@ eight_below w t =
     let e : 0 + length (bytes_of 8 w) ≡ 8 = omega (arith, length_bytes_of 8 w) in
     subst (λ (n : ℕ). digits_from 0 (bytes_of 8 w) < 10 ^ n) e (digits_below 0 0 (bytes_of 8 w) (lit< tt) t)
 
-module _ (v w : ℕ) where
-  pub tail_blank : v ≡ 0 → number_in (read_field (bytes_of 8 w)) ≡ number_in (onward v (bytes_of 8 w))
-  unfolding onward
-  tail_blank e = rw (eq-eqb v 0 e)
+pub tail_digits : (v w : ℕ) → (v ≡ 0 → ⊥)
+    → are_digits (bytes_of 8 w) ≡ true
+    → onward v (bytes_of 8 w) ≡ Some (v * 100000000 + digits_from 0 (bytes_of 8 w))
+tail_digits v w n t = rw (onward_number v (bytes_of 8 w) n, read_digits_is v (bytes_of 8 w), t) (ap Some (eight_behind v w))
 
-  pub tail_digits : (v ≡ 0 → ⊥)
-      → ltb v none && are_digits (bytes_of 8 w) ≡ true
-      → number_in (onward v (bytes_of 8 w)) ≡ v * 100000000 + digits_from 0 (bytes_of 8 w)
-  tail_digits n t =
-      let p = and_halves (ltb v none) t in
-      rw (onward_number v (bytes_of 8 w) n (ltb-true v none p.0), read_digits_is v (bytes_of 8 w), p.1) (eight_behind v w)
-
-  pub tail_none : (v ≡ 0 → ⊥) → ltb v none && are_digits (bytes_of 8 w) ≡ false → number_in (onward v (bytes_of 8 w)) ≡ none
-  tail_none n t =
-      ⊎_elim
-      (λ (l : ltb v none ≡ true).
-      let d : are_digits (bytes_of 8 w) ≡ false = rw l at t in
-      rw (onward_number v (bytes_of 8 w) n (ltb-true v none l), read_digits_is v (bytes_of 8 w), d))
-      (λ (l : ltb v none ≡ false). ap number_in (onward_none v (bytes_of 8 w) (ltb-false v none l)))
-      (true_or_false (ltb v none))
-
--- the number of a field of at most twelve columns is its answer
-pub answer_read : (at w : ℕ) (l : List ℕ) (v : ℕ)
-    → w ≤ 12
-    → v ≡ number_in (read_field (take w (drop at l)))
-    → cond (ltb v none) (Some v) None ≡ read_field (take w (drop at l))
-answer_read at w l v h e =
-    let m = length-take w (drop at l) in
-    marked (read_field (take w (drop at l))) v e
-    (λ u i.
-    lt_of_lt_of_le (read_field_narrow (take w (drop at l)) u i)
-    (pow-le-pow_right {n = 10} (lit< tt) {i = length (take w (drop at l))} {j = 12} (omega arith)))
-  where
-    marked : (x : Option ℕ) (v : ℕ) → v ≡ number_in x → ((u : ℕ) → x ≡ Some u → u < none) → cond (ltb v none) (Some v) None ≡ x
-    marked (Some u) v e f = rw (e, lt-ltb u none (f u refl))
-    marked None v e f = rw e
+pub tail_none : (v w : ℕ) → (v ≡ 0 → ⊥) → are_digits (bytes_of 8 w) ≡ false → onward v (bytes_of 8 w) ≡ None
+tail_none v w n t = rw (onward_number v (bytes_of 8 w) n, read_digits_is v (bytes_of 8 w), t)

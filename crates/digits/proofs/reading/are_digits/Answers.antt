@@ -1,20 +1,15 @@
 use Rattle.digits.proofs.Laws.Words.{high_no, high_fits, high_yes}
-use Prim.Native.Nat.{◌^◌, ◌<◌}
-use native.Mathlib.Omega.{arith}
-use mathlib.Core.Path.{sym}
+use Rattle.std.proofs.Common.{sym, ◌∙◌, arith}
+use borrow.Author.Tests.{ne_eqb}
 use Rattle.digits.proofs.reading.are_digits.Goals as goal
 
-pub returns-then-w-ne3472328296227680304 : goal.returns-then-w-ne3472328296227680304
-returns-then-w-ne3472328296227680304 c =
-    let fits : c.args.w < 2 ^ 64 = omega (arith, c.well_formed) in
-    sym (high_no _ fits c.if-w-ne3472328296227680304.true)
-
 pub overflow_add-result : goal.overflow_add-result
-overflow_add-result c =
-    let fits : c.args.w < 2 ^ 64 = omega (arith, c.well_formed) in
-    omega (arith, high_fits _ fits c.if-w-ne3472328296227680304.false)
+overflow_add-result c = omega (arith, high_fits _ c.ranges.w.fits c.if-w-eq3472328296227680304.true)
 
-pub returns : goal.returns
-returns c =
-    let fits : c.args.w < 2 ^ 64 = omega (arith, c.well_formed) in
-    high_yes _ fits c.if-w-ne3472328296227680304.false
+pub returns-then-w-eq3472328296227680304 : goal.returns-then-w-eq3472328296227680304
+returns-then-w-eq3472328296227680304 c = high_yes _ c.ranges.w.fits c.if-w-eq3472328296227680304.true
+
+pub returns-else-w-eq3472328296227680304 : goal.returns-else-w-eq3472328296227680304
+returns-else-w-eq3472328296227680304 c =
+    let other = c.if-w-eq3472328296227680304.false in
+    ne_eqb _ _ other ∙ sym (high_no _ c.ranges.w.fits other)

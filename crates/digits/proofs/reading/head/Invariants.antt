@@ -1,10 +1,10 @@
-use Rattle.digits.proofs.Laws.Words.{Reads}
-use Rattle.digits.specs.Words.{none}
-use Prim.Native.Nat.{◌-◌, ◌^◌, ◌≤◌, ◌<◌}
+use Rattle.std.proofs.Common.{◌≡◌, ℕ, ◌<◌, ◌^◌, List, ◌++◌, length, drop}
+use Rattle.digits.specs.Field.{read_field}
+use Rattle.digits.specs.Words.{onward}
 use Rattle.digits.proofs.reading.head.Given as goal
 
-abbrev pub invariant-loop-i : goal.invariant-loop-i
-invariant-loop-i l = (l.i ≤ l.n) × (l.v < none → l.v < 10 ^ l.i) × Reads l.line l.at l.n l.i l.v
-
-abbrev pub decreases-loop-i : goal.decreases-loop-i
-decreases-loop-i l = l.n - l.i
+-- what is read of the columns that are left, after those passed, is what is read of all
+abbrev pub invariant-loop-b : goal.invariant-loop-b
+invariant-loop-b l =
+    (l.v < 10 ^ l.b-index)
+    × ((s : List ℕ) → 0 < length s → onward l.v (drop l.b-index l.b-items ++ s) ≡ read_field (l.b-items ++ s))

@@ -1,32 +1,36 @@
-use Rattle.digits.proofs.Laws.Words.{narrower, field_last, field_word}
-use Prim.Native.Nat.{◌-◌}
-use lib.Dec.{lit≤}
-use mathlib.Core.Path.{sym, ◌∙◌}
+use Rattle.std.proofs.Common.{◌-◌, Some, None}
+use Rattle.digits.proofs.Laws.Words.{columns_read}
 use native.Mathlib.Omega.{arith}
+use lib.Dec.{lit<}
+use mathlib.Core.Path.{sym, ◌∙◌}
 use Rattle.digits.proofs.reading.number.Goals as goal
 
-pub returns-then-width-lt8 : goal.returns-then-width-lt8
-returns-then-width-lt8 c =
-    let s = c in
-    c.last.ensures
-    ∙ field_last s.args.line.now s.args.at (s.args.width - 1) _ c.head.ensures.read s.args.width (omega (arith, s.requires.1)) s.requires.0
+pub returns-in_err-head : goal.returns-in_err-head
+returns-in_err-head c =
+    let a = c.args in
+    c.from_residual.ensures
+    ∙ columns_read a.line.now a.at (a.width - 1) 1 a.width None c.in_err-head.ensures.read (omega (arith, c.requires.1)) (lit< tt) c.requires.0
 
-pub tail-requires : goal.tail-requires
-tail-requires c = narrower 1 4 _ (lit≤ tt) c.head-then-width-eq9.ensures.digits
+pub returns-in_err-head-2 : goal.returns-in_err-head-2
+returns-in_err-head-2 c =
+    let a = c.args in
+    c.from_residual-in_err-head-2.ensures
+    ∙ columns_read a.line.now a.at 1 8 a.width None c.in_err-head-2.ensures.read (sym c.if-width-eq9.true) (lit< tt) c.requires.0
 
 pub returns-then-width-eq9 : goal.returns-then-width-eq9
 returns-then-width-eq9 c =
-    let s = c in
-    c.tail.ensures
-    ∙ field_word s.args.line.now s.args.at 1 _ c.head-then-width-eq9.ensures.read s.args.width _ (sym c.if-width-eq9.true) c.word.ensures
+    let a = c.args in
+    rw c.word.ensures at c.tail.ensures
+    ∙ columns_read a.line.now a.at 1 8 a.width (Some c.in_ok-head-2.field-0) c.in_ok-head-2.ensures.read (sym c.if-width-eq9.true) (lit< tt) c.requires.0
 
-pub tail-requires-2 : goal.tail-requires-2
-tail-requires-2 c =
-    let s = c in
-    narrower (s.args.width - 8) 4 _ (omega (arith, s.requires.2)) c.head-2.ensures.digits
+pub returns-in_err-head-3 : goal.returns-in_err-head-3
+returns-in_err-head-3 c =
+    let a = c.args in
+    c.from_residual-in_err-head-3.ensures
+    ∙ columns_read a.line.now a.at (a.width - 8) 8 a.width None c.in_err-head-3.ensures.read (omega arith) (lit< tt) c.requires.0
 
 pub returns : goal.returns
 returns c =
-    let s = c in
-    c.tail-2.ensures
-    ∙ field_word s.args.line.now s.args.at (s.args.width - 8) _ c.head-2.ensures.read s.args.width _ (omega (arith, c.if-width-lt8.false)) c.word-2.ensures
+    let a = c.args in
+    rw c.word-2.ensures at c.tail-2.ensures
+    ∙ columns_read a.line.now a.at (a.width - 8) 8 a.width (Some c.in_ok-head-3.field-0) c.in_ok-head-3.ensures.read (omega arith) (lit< tt) c.requires.0

@@ -3,5 +3,5 @@ use Rattle.digits.proofs.reading.word.Goals as goal
 
 pub returns : goal.returns
 returns c =
-    let s = c in
-    word_take s.args.line.now s.args.at _ _ (c.half.ensures.bytes, c.half.ensures.fits) (c.half-2.ensures.bytes, c.half-2.ensures.fits)
+    let chunk = rw c.unwrap.ensures at c.first_chunk.ensures.cases in
+    word_take c.args.line.now c.args.at _ c.unwrap.result.now c.requires (λ i. (c.type_inv.line i).fits) chunk.same c.from_le_bytes.ensures

@@ -1,15 +1,10 @@
-use Prim.Native.Nat.{◌≤◌, ◌-◌}
-use mathlib.Core.Path.{◌≡◌}
-use lib.ListN.{length}
+use Rattle.std.proofs.Common.{◌≡◌, ◌≤◌, ◌-◌}
+use Rattle.digits.specs.Field.{signed_padded, signed_field, pasted}
 use Rattle.digits.proofs.Laws.Buffer.{still}
-use Rattle.digits.specs.Field.{signed_padded}
 use Rattle.digits.proofs.writing.put_field.Given as goal
 
+-- what stands in the buffer and what is still to come make up the whole
 abbrev pub invariant-loop-i : goal.invariant-loop-i
-invariant-loop-i l = (l.at ≤ l.i)
-    × (l.i ≤ l.initial.i)
-    × (length l.out ≡ length l.initial.out)
-    × (still l.at l.i (signed_padded (l.i - l.at) l.fill l.rest) l.out ≡ still l.at l.initial.i (signed_padded (l.initial.i - l.at) l.initial.fill l.initial.rest) l.initial.out)
-
-abbrev pub decreases-loop-i : goal.decreases-loop-i
-decreases-loop-i l = l.i - l.at
+invariant-loop-i l =
+    (l.at ≤ l.i)
+    × (still l.at l.i (signed_padded (l.i - l.at) l.fill l.rest) l.out ≡ pasted l.at (signed_field l.width l.sign l.v) l.fn.out)
