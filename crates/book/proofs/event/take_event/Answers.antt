@@ -1,24 +1,29 @@
-use Rattle.tables.specs.Ledger.{ledger}
+-- `book::event::take_event` meets its contract: the memory first, then the limits, then the event is acted on. Assumes nothing.
+use Rattle.std.proofs.Common.{◌≡◌, Err, rules, sym, ap, ◌∙◌}
+use Rattle.tables.specs.Ledger.{ledger_in}
 use Rattle.tables.proofs.Laws.Lookup.{lookup_since_first}
+use Rattle.fitness.specs.Fitness.{fit}
 use Rattle.book.proofs.Laws.Events.{found_for, acted_taken, taken_unfit, taken_refused}
-use mathlib.Core.Path.{sym, ◌∙◌}
 use Rattle.book.proofs.event.take_event.Goals as goal
 
-pub returns-then-not-is_fit : goal.returns-then-not-is_fit
-returns-then-not-is_fit c = taken_unfit _ _ _ (sym c.is_fit.ensures ∙ c.if-not-is_fit.true)
+pub returns-then-not-is_fit-clause-taken : goal.returns-then-not-is_fit-clause-taken
+returns-then-not-is_fit-clause-taken c =
+    taken_unfit _ _ (sym (c.is_fit.ensures ∙ ap fit c.view.ensures) ∙ c.if-not-is_fit.true)
 
-pub returns-in-Err : goal.returns-in-Err
-returns-in-Err c = taken_refused _ _ _ _ (sym c.is_fit.ensures ∙ c.if-not-is_fit.false) (sym c.check.ensures.answer ∙ c.in-Err.is)
+pub returns-in_err-check-clause-taken : goal.returns-in_err-check-clause-taken
+returns-in_err-check-clause-taken c =
+    let refused : c.from_residual.result ≡ Err c.in_err-check.field-0.0 = search rules in
+    rw refused (taken_refused _ _ _ (sym (c.is_fit.ensures ∙ ap fit c.view.ensures) ∙ c.if-not-is_fit.false) (sym c.check.ensures.answer ∙ c.in_err-check.was))
 
-pub returns-in-Ok : goal.returns-in-Ok
-returns-in-Ok c =
+pub returns-clause-taken : goal.returns-clause-taken
+returns-clause-taken c =
     let a = c.args in
-    let l = ledger a.header a.mandates.now a.collections.now a.creditors.now a.creditor_positions.now a.debtor_positions.now a.bank_positions.now in
-    acted_taken l a.e _ _ _ _ (sym c.is_fit.ensures ∙ c.if-not-is_fit.false)
-    (sym c.check.ensures.answer ∙ c.in-Ok.is)
-    (found_for a.e l _ _ 0 0
-    (lookup_since_first a.mandates.now a.header.mandates a.e.mandate)
-    (lookup_since_first a.collections.now a.header.collections a.e.a)
-    c.find_mandate.ensures
-    c.find_collection.ensures)
-    c.act.ensures
+    let b = a.book.now in
+    acted_taken (ledger_in b) a.e _ _ _ _ (sym (c.is_fit.ensures ∙ ap fit c.view.ensures) ∙ c.if-not-is_fit.false)
+    (sym c.check.ensures.answer ∙ c.in_ok-check.was)
+    (found_for a.e (ledger_in b) _ _ 0 0
+    (lookup_since_first b.mandates.now b.header.mandates a.e.mandate)
+    (lookup_since_first b.collections.now b.header.collections a.e.a)
+    c.find_mandate-mandate.ensures
+    c.find_collection-collection.ensures)
+    c.act.ensures.acted
