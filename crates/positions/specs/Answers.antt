@@ -1,43 +1,50 @@
 -- What the calls answer, and what they leave in a table of positions: a refusal leaves every one as it was.
 -- Assumes nothing.
-use Rattle.std.specs.Prelude.{Bool, cond, ◌&&◌, List, ℕ, leb, ℤ, Option, Some, None}
+use Rattle.std.specs.Prelude.{Bool, cond, ◌&&◌, List, ℕ, ◌-◌, leb, ℤ, Option, Some, None, Result, Ok, Err}
 use Rattle.positions.specs.Compensation.{amount_limit}
 use Rattle.positions.specs.Limits.{compensation_limit}
 use Rattle.positions.specs.Postings.{settlement, reversed, refunded}
 use Rattle.positions.specs.Positions.{has_entry, position, posted, transferred, in_limit}
-use Rattle.positions.specs.declared.PostAnswer.{PostAnswer}
-use Rattle.positions.specs.declared.PostAnswer.TheVariants.{Posted, NoEntry, TooLarge}
+use Rattle.positions.specs.declared.PostError.{PostError}
+use Rattle.positions.specs.declared.PostError.TheVariants.{NoEntry, TooLarge}
 use Rattle.positions.specs.declared.Postings.{Postings}
 
 -- the numbers that a posting adds lie within this on either side, so that 64 bits hold their sum
 abbrev pub capacity : ℕ
 capacity = 4000000000000000000
 
+-- the index of the entry of a number: the party numbered 1 is at index 0
+abbrev pub entry_index : List ℤ → ℕ → Result ℕ PostError
+entry_index l k = cond (has_entry l k) (Ok (k - 1)) (Err NoEntry)
+
+-- a position and an amount, each within the capacity
+abbrev pub sizes_answer : ℤ → ℤ → Result Unit PostError
+sizes_answer z x = cond (in_limit capacity z && in_limit capacity x) (Ok tt) (Err TooLarge)
+
 -- ---- the order of the tests: the entries first, then the sizes
 
-abbrev pub posting_answer : Bool → Bool → PostAnswer
-posting_answer entries sizes = cond entries (cond sizes Posted TooLarge) NoEntry
+abbrev pub posting_answer : Bool → Bool → Result Unit PostError
+posting_answer entries sizes = cond entries (cond sizes (Ok tt) (Err TooLarge)) (Err NoEntry)
 
 abbrev pub post_sizes : List ℤ → ℕ → ℤ → Bool
 post_sizes l k x = in_limit capacity (position l k) && in_limit capacity x
 
-unfoldable pub post_answer : List ℤ → ℕ → ℤ → PostAnswer
+unfoldable pub post_answer : List ℤ → ℕ → ℤ → Result Unit PostError
 post_answer l k x = posting_answer (has_entry l k) (post_sizes l k x)
 
 abbrev pub transfer_sizes : List ℤ → ℕ → ℕ → ℤ → Bool
 transfer_sizes l from to x =
     in_limit capacity (position l from) && in_limit capacity (position l to) && in_limit capacity x
 
-unfoldable pub transfer_answer : List ℤ → ℕ → ℕ → ℤ → PostAnswer
+unfoldable pub transfer_answer : List ℤ → ℕ → ℕ → ℤ → Result Unit PostError
 transfer_answer l from to x = posting_answer (has_entry l from && has_entry l to) (transfer_sizes l from to x)
 
 -- ---- the table after the call
 
--- the new table where the answer is Posted, else the old one
-abbrev pub table_after : PostAnswer → List ℤ → List ℤ → List ℤ
-table_after Posted new old = new
-table_after NoEntry new old = old
-table_after TooLarge new old = old
+-- the new table where the posting was made, else the old one
+abbrev pub table_after : Result Unit PostError → List ℤ → List ℤ → List ℤ
+table_after (Ok tt) new old = new
+table_after (Err e) new old = old
 
 unfoldable pub after_post : List ℤ → ℕ → ℤ → List ℤ
 after_post l k x = table_after (post_answer l k x) (posted l k x) l

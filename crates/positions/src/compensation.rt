@@ -16,7 +16,7 @@ const PARTS_OF_CENT: u64 = 3600000;
 fn in_limits(amount: u64, rate: u64, days: u64) -> bool
     ensures { result ≡ in_limits amount rate days }
 {
-    (1 <= amount) & (amount <= AMOUNT_LIMIT) & (rate <= RATE_LIMIT) & (days <= DAYS_LIMIT)
+    1 <= amount && amount <= AMOUNT_LIMIT && rate <= RATE_LIMIT && days <= DAYS_LIMIT
 }
 
 // The first product, of which the interest is made.
@@ -47,28 +47,23 @@ fn half_up(parts: u64) -> u64
 pub fn compensation(amount: u64, rate: u64, days: u64) -> Option<u64>
     ensures { result ≡ compensation_of amount rate days }
 {
-    if in_limits(amount, rate, days) {
-        return Some(half_up(interest(amount, rate, days)));
-    }
-    None
+    in_limits(amount, rate, days).then(|| half_up(interest(amount, rate, days)))
 }
 
 // The product of days and rate, as it goes into the interest; refused 5 outside their limits.
 pub fn rate_days(days: u64, rate: u64) -> Result<u64, Refusal>
     ensures { RateDaysCall days rate result }
 {
-    if (days <= DAYS_LIMIT) & (rate <= RATE_LIMIT) {
-        return Ok(days_times_rate(days, rate));
-    }
-    Err(Refusal::BadField)
+    (days <= DAYS_LIMIT && rate <= RATE_LIMIT)
+        .then(|| days_times_rate(days, rate))
+        .ok_or(Refusal::BadField)
 }
 
 // The product of days, rate and the amount of a row, which is the interest; refused 5 outside their limits.
 pub fn rate_days_amount(days: u64, rate: u64, amount: u64) -> Result<u64, Refusal>
     ensures { RateDaysAmountCall days rate amount result }
 {
-    if in_limits(amount, rate, days) {
-        return Ok(interest(amount, rate, days));
-    }
-    Err(Refusal::BadField)
+    in_limits(amount, rate, days)
+        .then(|| interest(amount, rate, days))
+        .ok_or(Refusal::BadField)
 }

@@ -1,5 +1,5 @@
 // Signed positions, what an event of money posts to them, and compensation: document 01, "Postings", and document 02, (g).
-// Every public function answers for any input: an enum says where there is nothing to post to, or no value.
+// Every public function answers for any input: an error says where there is nothing to post to, and None where there is no value.
 #![tactic(auto)]
 
 pub mod amounts;
@@ -11,16 +11,15 @@ use refusals::Refusal;
 // The largest compensation, in cents.
 pub const COMPENSATION_LIMIT: u64 = 277472249997;
 
-// What became of a posting. Only Posted changed the table.
-#[derive(Clone, Copy)]
-pub enum PostAnswer {
-    Posted,
+// Why nothing was posted. The table is as it was.
+#[derive(Clone, Copy, Debug, PartialEq, Eq)]
+pub enum PostError {
     NoEntry,
     TooLarge,
 }
 
 // The amounts that one event posts: to the debtor, the creditor, the bank of each and total compensation.
-#[derive(Clone, Copy)]
+#[derive(Clone, Copy, Debug, PartialEq, Eq)]
 pub struct Postings {
     pub debtor: i64,
     pub creditor: i64,
@@ -28,4 +27,3 @@ pub struct Postings {
     pub cbank: i64,
     pub compensation: i64,
 }
-

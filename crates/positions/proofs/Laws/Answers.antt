@@ -1,98 +1,160 @@
 -- Laws of specs/Answers. Names: F-no-entry, F-too-large and F-made give the answer of F and the table after it.
 -- To cite: `post_fits` and `transfer_fits` (a posting within capacity is made), `settlement_of_is`, `reversed_of_is`,
 -- `refunded_of_is`. Assumes nothing.
-use Rattle.std.proofs.Common.{None, Some}
-use mathlib.Core.Path.{◌≡◌, sym, ◌∙◌, ap}
-use mathlib.Core.Bool.{true, false, ◌&&◌}
+use Rattle.std.proofs.Common.{None, Some, Ok, Err}
+use mathlib.Core.Path.{◌≡◌, refl, sym, ◌∙◌, ap}
+use mathlib.Core.Bool.{Bool, true, false, cond, ◌&&◌}
 use mathlib.Core.List.{List}
-use Prim.Native.Nat.{ℕ, ◌+◌, ◌-◌, ◌<◌, ◌≤◌, ◌^◌}
+use Prim.Native.Nat.{ℕ, ◌-◌, ◌<◌, ◌≤◌}
 use native.Mathlib.Omega.{arith}
 use borrow.Author.Tests.{le-leb, lt-leb}
 use lib.Dec.{leb}
-use lib.IntN.{ℤ, pos, neg_ℤ, nat_abs, ◌+ℤ◌, neg_ℤ-neg_ℤ}
+use lib.IntN.{ℤ, pos, neg_ℤ, nat_abs, ◌+ℤ◌}
 use lib.ListN.{length, get_or, set}
 use mir.Syntax.{w64}
 use mir.Val.{SFits}
 use Rattle.common.proofs.Tests.{and_halves, and_true}
-use Rattle.positions.specs.declared.PostAnswer.TheVariants.{Posted, NoEntry, TooLarge}
+use Rattle.positions.specs.declared.PostError.{PostError}
+use Rattle.positions.specs.declared.PostError.TheVariants.{NoEntry, TooLarge}
 use Rattle.positions.specs.Positions.{has_entry, HasEntry, position, posted, transferred, in_limit}
 use Rattle.positions.specs.Postings.{settlement, reversed, refunded}
 use Rattle.positions.specs.Compensation.{amount_limit}
 use Rattle.positions.specs.Limits.{compensation_limit}
-use Rattle.positions.specs.Answers.{capacity, post_sizes, post_answer, transfer_sizes, transfer_answer, after_post, after_transfer, settlement_of, reversed_of, refunded_of}
+use Rattle.positions.specs.Answers.{capacity, entry_index, sizes_answer, post_sizes, post_answer, transfer_sizes, transfer_answer, after_post, after_transfer, settlement_of, reversed_of, refunded_of}
 use Rattle.positions.proofs.Laws.Integers.{size_add, size_neg, within_size, size_within, size_fits}
 use Rattle.positions.proofs.Laws.Positions.{has_entry_entry, entry_has_entry, entry_posted, position_index, posted_index}
-use Rattle.positions.proofs.Laws.Positions.{position_posted_same, transferred_posted, size_transferred}
+use Rattle.positions.proofs.Laws.Positions.{position_posted_same, transferred_posted, size_posted, size_transferred}
 
--- ---- as the code finds an entry, at the index k - 1
+-- ---- the answers of the code's two steps: the index of an entry, and a sum
 
-index_held :
-    (l : List ℤ) (k : ℕ) (x : ℤ) → HasEntry l k → SFits w64 (position l k +ℤ x)
-    → (k - 1 < length l) × SFits w64 (get_or l (k - 1) (pos 0) +ℤ x)
-index_held l k x e f = (omega (arith, e.low, e.high), rw (position_index l k e.low) at f)
+ok_is : {A E : Type 0} (t : Bool) (v a : A) (e : E) → cond t (Ok v) (Err e) ≡ Ok a → (t ≡ true) × (a ≡ v)
+ok_is true v a e p = (refl, cc)
+ok_is false v a e p = absurd (cc)
+
+err_is : {A E : Type 0} (t : Bool) (v : A) (e d : E) → cond t (Ok v) (Err e) ≡ Err d → (t ≡ false) × (d ≡ e)
+err_is true v e d p = absurd (cc)
+err_is false v e d p = (refl, cc)
+
+module _ (l : List ℤ) (k : ℕ) where
+  pub no_entry_index : (e : PostError) → entry_index l k ≡ Err e → (has_entry l k ≡ false) × (e ≡ NoEntry)
+  no_entry_index e p = err_is (has_entry l k) (k - 1) NoEntry e p
+
+  pub entry_index_at : (at : ℕ) → entry_index l k ≡ Ok at → (has_entry l k ≡ true) × (at ≡ k - 1)
+  entry_index_at at p = ok_is (has_entry l k) (k - 1) at NoEntry p
+
+  -- the cell at the index is that of the number
+  pub index_held : (at : ℕ) → entry_index l k ≡ Ok at → at < length l
+  index_held at p =
+      let i = entry_index_at at p in
+      let e = has_entry_entry l k i.0 in
+      omega (arith, i.1, e.low, e.high)
+
+  pub position_at : (at : ℕ) → entry_index l k ≡ Ok at → position l k ≡ get_or l at (pos 0)
+  position_at at p =
+      let i = entry_index_at at p in
+      position_index l k (has_entry_entry l k i.0).low ∙ ap (λ (n : ℕ). get_or l n (pos 0)) (sym i.1)
+
+  pub posted_at : (at : ℕ) (x : ℤ) → entry_index l k ≡ Ok at → set l at (get_or l at (pos 0) +ℤ x) ≡ posted l k x
+  posted_at at x p =
+      let i = entry_index_at at p in
+      ap (λ (n : ℕ). set l n (get_or l n (pos 0) +ℤ x)) i.1 ∙ sym (posted_index l k x (has_entry_entry l k i.0).low)
+
+module _ (z x : ℤ) where
+  abbrev fit : Bool
+  fit = in_limit capacity z && in_limit capacity x
+
+  pub sizes_fit : sizes_answer z x ≡ Ok tt → in_limit capacity z && in_limit capacity x ≡ true
+  sizes_fit p = (ok_is fit tt tt TooLarge p).0
+
+  pub sizes_too_large : (e : PostError) → sizes_answer z x ≡ Err e → (in_limit capacity z && in_limit capacity x ≡ false) × (e ≡ TooLarge)
+  sizes_too_large e p = err_is fit tt TooLarge e p
+
+  -- 64 bits hold their sum
+  pub sum_fits : sizes_answer z x ≡ Ok tt → SFits w64 (z +ℤ x)
+  sum_fits p =
+      let h = and_halves (in_limit capacity z) (sizes_fit p) in
+      size_fits (z +ℤ x) (omega (arith, size_add z x, within_size capacity z h.0, within_size capacity x h.1))
 
 -- ---- post
 
 module _ (l : List ℤ) (k : ℕ) (x : ℤ) where
-  pub post_no_entry : has_entry l k ≡ false → (NoEntry ≡ post_answer l k x) × (l ≡ after_post l k x)
+  pub post_no_entry : has_entry l k ≡ false → (Err NoEntry ≡ post_answer l k x) × (l ≡ after_post l k x)
   unfolding after_post post_answer
   post_no_entry e = (rw e, rw e)
 
-  pub post_too_large : has_entry l k ≡ true → post_sizes l k x ≡ false → (TooLarge ≡ post_answer l k x) × (l ≡ after_post l k x)
+  pub post_too_large : has_entry l k ≡ true → post_sizes l k x ≡ false → (Err TooLarge ≡ post_answer l k x) × (l ≡ after_post l k x)
   unfolding after_post post_answer
   post_too_large e s = (rw (e, s), rw (e, s))
 
-  pub post_made : has_entry l k ≡ true → post_sizes l k x ≡ true → (Posted ≡ post_answer l k x) × (posted l k x ≡ after_post l k x)
+  pub post_made : has_entry l k ≡ true → post_sizes l k x ≡ true → (Ok tt ≡ post_answer l k x) × (posted l k x ≡ after_post l k x)
   unfolding after_post post_answer
   post_made e s = (rw (e, s), rw (e, s))
 
-  -- 64 bits hold the new position
-  post_held : post_sizes l k x ≡ true → SFits w64 (position l k +ℤ x)
-  post_held s =
-      let h = and_halves (in_limit capacity (position l k)) s in
-      size_fits (position l k +ℤ x)
-      (omega (
-        arith,
-        size_add (position l k) x,
-        within_size capacity (position l k) h.0,
-        within_size capacity x h.1,
-      ))
+  -- the same by the code's steps
+  pub post_without : (e : PostError) → entry_index l k ≡ Err e → (Err e ≡ post_answer l k x) × (l ≡ after_post l k x)
+  post_without e p = let n = no_entry_index l k e p in rw n.1 (post_no_entry n.0)
 
-  -- what the code stores, at the index k - 1
-  pub post_stores : has_entry l k ≡ true → post_sizes l k x ≡ true → (k - 1 < length l) × SFits w64 (get_or l (k - 1) (pos 0) +ℤ x)
-  post_stores e s = index_held l k x (has_entry_entry l k e) (post_held s)
+  pub post_outside :
+      (at : ℕ) (e : PostError) → entry_index l k ≡ Ok at → sizes_answer (get_or l at (pos 0)) x ≡ Err e
+      → (Err e ≡ post_answer l k x) × (l ≡ after_post l k x)
+  post_outside at e p q =
+      let n = sizes_too_large (get_or l at (pos 0)) x e q in
+      rw n.1 (post_too_large (entry_index_at l k at p).0 (rw (position_at l k at p) n.0))
 
   pub post_stored :
-      has_entry l k ≡ true → post_sizes l k x ≡ true → set l (k - 1) (get_or l (k - 1) (pos 0) +ℤ x) ≡ after_post l k x
-  post_stored e s = sym (posted_index l k x (has_entry_entry l k e).low) ∙ (post_made e s).1
+      (at : ℕ) → entry_index l k ≡ Ok at → sizes_answer (get_or l at (pos 0)) x ≡ Ok tt
+      → (Ok tt ≡ post_answer l k x) × (set l at (get_or l at (pos 0) +ℤ x) ≡ after_post l k x)
+  post_stored at p q =
+      let made = post_made (entry_index_at l k at p).0 (rw (position_at l k at p) (sizes_fit (get_or l at (pos 0)) x q)) in
+      (made.0, posted_at l k at x p ∙ made.1)
 
   -- what a caller shows, and gets
   pub post_fits :
       HasEntry l k → nat_abs (position l k) ≤ capacity → nat_abs x ≤ capacity
-      → (post_answer l k x ≡ Posted) × (after_post l k x ≡ posted l k x)
+      → (post_answer l k x ≡ Ok tt) × (after_post l k x ≡ posted l k x)
   post_fits e p h =
       let made = post_made (entry_has_entry l k e) (and_true (size_within capacity (position l k) p) (size_within capacity x h)) in
       (sym made.0, sym made.1)
 
 -- ---- transfer
 
+-- the code tests each position with the amount
+first_large : (a b x : Bool) → a && x ≡ false → a && b && x ≡ false
+first_large true true x e = e
+first_large true false x e = refl
+first_large false b x e = refl
+
+second_large : (a b x : Bool) → b && x ≡ false → a && b && x ≡ false
+second_large true b x e = e
+second_large false b x e = refl
+
 module _ (l : List ℤ) (from to : ℕ) (x : ℤ) where
   pub transfer_no_entry :
-      has_entry l from && has_entry l to ≡ false → (NoEntry ≡ transfer_answer l from to x) × (l ≡ after_transfer l from to x)
+      has_entry l from && has_entry l to ≡ false → (Err NoEntry ≡ transfer_answer l from to x) × (l ≡ after_transfer l from to x)
   unfolding after_transfer transfer_answer
   transfer_no_entry e = (rw e, rw e)
 
   pub transfer_too_large :
       has_entry l from && has_entry l to ≡ true → transfer_sizes l from to x ≡ false
-      → (TooLarge ≡ transfer_answer l from to x) × (l ≡ after_transfer l from to x)
+      → (Err TooLarge ≡ transfer_answer l from to x) × (l ≡ after_transfer l from to x)
   unfolding after_transfer transfer_answer
   transfer_too_large e s = (rw (e, s), rw (e, s))
 
   pub transfer_made :
       has_entry l from && has_entry l to ≡ true → transfer_sizes l from to x ≡ true
-      → (Posted ≡ transfer_answer l from to x) × (transferred l from to x ≡ after_transfer l from to x)
+      → (Ok tt ≡ transfer_answer l from to x) × (transferred l from to x ≡ after_transfer l from to x)
   unfolding after_transfer transfer_answer
   transfer_made e s = (rw (e, s), rw (e, s))
+
+  -- the same by the code's steps
+  pub transfer_without_from :
+      (e : PostError) → entry_index l from ≡ Err e → (Err e ≡ transfer_answer l from to x) × (l ≡ after_transfer l from to x)
+  transfer_without_from e p = let n = no_entry_index l from e p in rw n.1 (transfer_no_entry (rw n.0))
+
+  pub transfer_without_to :
+      (i : ℕ) (e : PostError) → entry_index l from ≡ Ok i → entry_index l to ≡ Err e
+      → (Err e ≡ transfer_answer l from to x) × (l ≡ after_transfer l from to x)
+  transfer_without_to i e p q = let n = no_entry_index l to e q in rw n.1 (transfer_no_entry (rw ((entry_index_at l from i p).0, n.0)))
 
   sizes_small :
       transfer_sizes l from to x ≡ true
@@ -105,21 +167,7 @@ module _ (l : List ℤ) (from to : ℕ) (x : ℤ) where
         within_size capacity x h.1,
       )
 
-  pub transfer_amount : transfer_sizes l from to x ≡ true → nat_abs x < 2 ^ 63
-  transfer_amount s = omega (arith, (sizes_small s).2)
-
-  pub transfer_from : has_entry l from && has_entry l to ≡ true → HasEntry l from
-  transfer_from e = has_entry_entry l from (and_halves (has_entry l from) e).0
-
-  pub transfer_to : has_entry l from && has_entry l to ≡ true → HasEntry l to
-  transfer_to e = has_entry_entry l to (and_halves (has_entry l from) e).1
-
-  -- 64 bits hold both new positions, the second after the first
-  held_from : transfer_sizes l from to x ≡ true → SFits w64 (position l from +ℤ neg_ℤ x)
-  held_from s =
-      let h = sizes_small s in
-      size_fits (position l from +ℤ neg_ℤ x) (omega (arith, size_add (position l from) (neg_ℤ x), size_neg x))
-
+  -- 64 bits hold the second new position, after the first
   held_to : HasEntry l to → transfer_sizes l from to x ≡ true → SFits w64 (position (posted l from (neg_ℤ x)) to +ℤ x)
   held_to e s =
       let h = sizes_small s in
@@ -128,41 +176,84 @@ module _ (l : List ℤ) (from to : ℕ) (x : ℤ) where
       size_fits (position (posted l from (neg_ℤ x)) to +ℤ x)
       (omega (arith, size_transferred l from to to x, ap nat_abs (after ∙ read)))
 
-  -- what the code stores, first at one index and then at the other
-  pub transfer_stores_from :
-      has_entry l from && has_entry l to ≡ true
-      → transfer_sizes l from to x ≡ true
-      → (from - 1 < length l) × SFits w64 (get_or l (from - 1) (pos 0) +ℤ neg_ℤ x)
-  transfer_stores_from e s = index_held l from (neg_ℤ x) (transfer_from e) (held_from s)
+  module _ (i j : ℕ) (p : entry_index l from ≡ Ok i) (q : entry_index l to ≡ Ok j) where
+    both : has_entry l from && has_entry l to ≡ true
+    both = and_true (entry_index_at l from i p).0 (entry_index_at l to j q).0
 
-  pub transfer_stored_from :
-      has_entry l from && has_entry l to ≡ true
-      → set l (from - 1) (get_or l (from - 1) (pos 0) +ℤ neg_ℤ x) ≡ posted l from (neg_ℤ x)
-  transfer_stored_from e = sym (posted_index l from (neg_ℤ x) (transfer_from e).low)
+    pub transfer_outside_from :
+        (e : PostError) → sizes_answer (get_or l i (pos 0)) x ≡ Err e
+        → (Err e ≡ transfer_answer l from to x) × (l ≡ after_transfer l from to x)
+    transfer_outside_from e s =
+        let n = sizes_too_large (get_or l i (pos 0)) x e s in
+        let a = in_limit capacity (get_or l i (pos 0)) in
+        rw n.1
+        (transfer_too_large both
+        (rw (position_at l from i p) (first_large a (in_limit capacity (position l to)) (in_limit capacity x) n.0)))
 
-  pub transfer_stores_to :
-      has_entry l from && has_entry l to ≡ true
-      → transfer_sizes l from to x ≡ true
-      → (to - 1 < length (posted l from (neg_ℤ x))) × SFits w64 (get_or (posted l from (neg_ℤ x)) (to - 1) (pos 0) +ℤ x)
-  transfer_stores_to e s =
-      let t = transfer_to e in
-      index_held (posted l from (neg_ℤ x)) to x (entry_posted l from to (neg_ℤ x) t) (held_to t s)
+    pub transfer_outside_to :
+        (e : PostError) → sizes_answer (get_or l j (pos 0)) x ≡ Err e
+        → (Err e ≡ transfer_answer l from to x) × (l ≡ after_transfer l from to x)
+    transfer_outside_to e s =
+        let n = sizes_too_large (get_or l j (pos 0)) x e s in
+        let b = in_limit capacity (get_or l j (pos 0)) in
+        rw n.1
+        (transfer_too_large both
+        (rw (position_at l to j q) (second_large (in_limit capacity (position l from)) b (in_limit capacity x) n.0)))
 
-  pub transfer_stored_to :
-      has_entry l from && has_entry l to ≡ true
-      → transfer_sizes l from to x ≡ true
-      → set (posted l from (neg_ℤ x)) (to - 1) (get_or (posted l from (neg_ℤ x)) (to - 1) (pos 0) +ℤ x)
-      ≡ after_transfer l from to x
-  transfer_stored_to e s =
-      sym (posted_index (posted l from (neg_ℤ x)) to x (transfer_to e).low)
-      ∙ sym (transferred_posted l from to x)
-      ∙ (transfer_made e s).1
+    -- what the code stores, first at one index, to m, and then at the other
+    module _ (s : sizes_answer (get_or l i (pos 0)) x ≡ Ok tt) (t : sizes_answer (get_or l j (pos 0)) x ≡ Ok tt) where
+      sizes : transfer_sizes l from to x ≡ true
+      sizes =
+          let f = and_halves (in_limit capacity (get_or l i (pos 0))) (sizes_fit (get_or l i (pos 0)) x s) in
+          let g = and_halves (in_limit capacity (get_or l j (pos 0))) (sizes_fit (get_or l j (pos 0)) x t) in
+          rw (position_at l from i p, position_at l to j q) (and_true (and_true f.0 g.0) f.1)
+
+      -- 64 bits hold the first new position, and the second after it
+      pub transfer_fits_first : SFits w64 (get_or l i (pos 0) +ℤ neg_ℤ x)
+      transfer_fits_first =
+          let h = sizes_small sizes in
+          size_fits (get_or l i (pos 0) +ℤ neg_ℤ x)
+          (omega (arith, size_add (get_or l i (pos 0)) (neg_ℤ x), size_neg x, ap nat_abs (position_at l from i p)))
+
+      module _ (m : List ℤ) (stored : m ≡ set l i (get_or l i (pos 0) +ℤ neg_ℤ x)) where
+        first_posted : m ≡ posted l from (neg_ℤ x)
+        first_posted = stored ∙ posted_at l from i (neg_ℤ x) p
+
+        second_index : entry_index m to ≡ Ok j
+        second_index =
+            let t = entry_index_at l to j q in
+            let e = entry_posted l from to (neg_ℤ x) (has_entry_entry l to t.0) in
+            rw (first_posted, entry_has_entry (posted l from (neg_ℤ x)) to e, t.1)
+
+        pub transfer_held : j < length m
+        transfer_held = index_held m to j second_index
+
+        -- and the cell between the two
+        pub transfer_cell : SFits w64 (get_or m j (pos 0))
+        transfer_cell =
+            let h = sizes_small sizes in
+            rw (sym (position_at m to j second_index), first_posted)
+            (size_fits (position (posted l from (neg_ℤ x)) to) (omega (arith, size_posted l from to (neg_ℤ x), size_neg x)))
+
+        pub transfer_fits_second : SFits w64 (get_or m j (pos 0) +ℤ x)
+        transfer_fits_second =
+            rw (sym (position_at m to j second_index), first_posted)
+            (held_to (has_entry_entry l to (entry_index_at l to j q).0) sizes)
+
+        pub transfer_stored : (Ok tt ≡ transfer_answer l from to x) × (set m j (get_or m j (pos 0) +ℤ x) ≡ after_transfer l from to x)
+        transfer_stored = (
+          (transfer_made both sizes).0,
+          posted_at m to j x second_index
+              ∙ ap (λ (n : List ℤ). posted n to x) first_posted
+              ∙ sym (transferred_posted l from to x)
+              ∙ (transfer_made both sizes).1,
+        )
 
   -- what a caller shows, and gets
   pub transfer_fits :
       HasEntry l from → HasEntry l to → nat_abs (position l from) ≤ capacity → nat_abs (position l to) ≤ capacity
       → nat_abs x ≤ capacity
-      → (transfer_answer l from to x ≡ Posted) × (after_transfer l from to x ≡ transferred l from to x)
+      → (transfer_answer l from to x ≡ Ok tt) × (after_transfer l from to x ≡ transferred l from to x)
   transfer_fits f t p q h =
       let sizes = and_true (and_true (size_within capacity (position l from) p) (size_within capacity (position l to) q)) (size_within capacity x h) in
       let made = transfer_made (and_true (entry_has_entry l from f) (entry_has_entry l to t)) sizes in
@@ -193,20 +284,3 @@ refunded_of_is A K h k = rw (le-leb A amount_limit h, le-leb K compensation_limi
 pub refunded_of_outside : (A K : ℕ) → leb A amount_limit && leb K compensation_limit ≡ false → refunded_of A K ≡ None
 unfolding refunded_of
 refunded_of_outside A K e = rw e
-
--- the amounts as the code makes them, from the 64 bits of what is added and of what is taken
-pub settlement_amounts :
-    (A : ℕ) (plus minus : ℤ) → plus ≡ pos A → minus ≡ neg_ℤ (pos A) → A ≤ amount_limit
-    → Some (record { debtor = minus; creditor = plus; dbank = minus; cbank = plus; compensation = pos 0 }) ≡ settlement_of A
-settlement_amounts A plus minus p m h = rw (p, m) (sym (settlement_of_is A h))
-
-pub reversed_amounts :
-    (A : ℕ) (plus minus : ℤ) → plus ≡ pos A → minus ≡ neg_ℤ (pos A) → A ≤ amount_limit
-    → Some (record { debtor = plus; creditor = minus; dbank = plus; cbank = minus; compensation = pos 0 }) ≡ reversed_of A
-reversed_amounts A plus minus p m h = rw (p, m, reversed_of_is A h, neg_ℤ-neg_ℤ (pos A))
-
-pub refunded_amounts :
-    (A K : ℕ) (back plus minus cents : ℤ) → back ≡ pos A → plus ≡ pos (A + K) → minus ≡ neg_ℤ (pos (A + K))
-    → cents ≡ pos K → A ≤ amount_limit → K ≤ compensation_limit
-    → Some (record { debtor = back; creditor = minus; dbank = plus; cbank = minus; compensation = cents }) ≡ refunded_of A K
-refunded_amounts A K back plus minus cents b p m c h k = rw (b, p, m, c) (sym (refunded_of_is A K h k))

@@ -1,9 +1,8 @@
 -- `half_up` is `half_up`; below the bound its sum and its double do not wrap.
--- Assumes nothing.
-use mathlib.Core.Path.{refl}
+use Rattle.std.proofs.Common.{rules}
 use Rattle.positions.specs.Compensation.{half_up}
 use Rattle.positions.proofs.compensation.half_up.Goals as goal
 
 pub returns : goal.returns
 unfolding half_up
-returns c = refl
+returns c = search rules
