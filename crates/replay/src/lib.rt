@@ -1,5 +1,4 @@
 // Replay: a lent list of events on a ledger that is opened first, with what is promised of every list in its contract.
 #![tactic(auto)]
 
-mod cells;
 pub mod replay;

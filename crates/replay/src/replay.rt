@@ -1,129 +1,68 @@
 // Replay: a lent list of events on a ledger that is opened first: specs/Replay.
 ghost use Rattle.std.specs.Prelude.{◌≡◌, true};
-ghost use Rattle.tables.specs.Ledger.{ledger};
+ghost use Rattle.tables.specs.Ledger.{ledger_in, SameLoans};
+ghost use Rattle.opening.specs.Opening.{open_number, open_result, opening};
 ghost use Rattle.model.specs.Step.{run};
 ghost use Rattle.model.specs.Bounds.{Safe};
 ghost use Rattle.fitness.specs.Fitness.{fit};
 ghost use Rattle.book.specs.Events.{Taken};
 ghost use Rattle.replay.specs.Replay.{events_in, Replayed};
 
-use crate::cells::{EVENT_CELLS, event_at};
 use book::acting::{act, find_collection, find_mandate};
-use checking::Outcome;
-use events::Event;
 use events::limits::check;
-use opening::{OpenOutcome, open_ledger};
-use tables::Header;
+use events::{Event, FIELDS};
+use opening::open_ledger;
+use refusals::Refusal;
+use tables::BookMut;
+
+// Opens the ledger of a book.
+fn open(book: &mut BookMut) -> Result<(), Refusal>
+    ensures loans { SameLoans book.old book.new }
+    ensures opening { open_result (open_number result) (ledger_in book.new) ≡ opening (ledger_in book.old) }
+{
+    let mandates = &mut *book.mandates;
+    let collections = &mut *book.collections;
+    open_ledger(
+        &mut book.header,
+        mandates,
+        collections,
+        book.creditors,
+        book.creditor_positions,
+        book.debtor_positions,
+        book.bank_positions,
+    )
+}
 
 // Any event, given to lent memory that is known to be fit.
-fn take_fit(
-    header: Header,
-    e: Event,
-    mandates: &mut [u64],
-    collections: &mut [u64],
-    creditors: &mut [u64],
-    creditor_positions: &mut [i64],
-    debtor_positions: &mut [i64],
-    bank_positions: &mut [i64],
-) -> Outcome
-    requires { fit (ledger header mandates.old collections.old creditors.old creditor_positions.old debtor_positions.old bank_positions.old) ≡ true }
-    ensures { Taken (ledger header mandates.old collections.old creditors.old creditor_positions.old debtor_positions.old bank_positions.old) e result
-        (ledger result.header mandates.new collections.new creditors.new creditor_positions.new debtor_positions.new bank_positions.new) }
+fn take_fit(book: &mut BookMut, e: Event) -> Result<(), Refusal>
+    requires { fit (ledger_in book.old) ≡ true }
+    ensures loans { SameLoans book.old book.new }
+    ensures taken { Taken (ledger_in book.old) e result (ledger_in book.new) }
 {
-    match check(e) {
-        Err(r) => Outcome {
-            answer: Err(r),
-            header: header,
-        },
-        Ok(()) => act(
-            header,
-            e,
-            find_mandate(e, mandates, header.mandates, 0),
-            find_collection(e, collections, header.collections, 0),
-            mandates,
-            collections,
-            creditors,
-            creditor_positions,
-            debtor_positions,
-            bank_positions,
-        ),
-    }
+    check(e)?;
+    let mandate = find_mandate(book, e, 0);
+    let collection = find_collection(book, e, 0);
+    act(book, e, mandate, collection)
 }
 
 // The events one after the other. The tables were tested once, and every event keeps them fit.
-fn run_events(
-    header: Header,
-    events: &[u64],
-    mandates: &mut [u64],
-    collections: &mut [u64],
-    creditors: &mut [u64],
-    creditor_positions: &mut [i64],
-    debtor_positions: &mut [i64],
-    bank_positions: &mut [i64],
-) -> Header
-    requires { Safe (ledger header mandates.old collections.old creditors.old creditor_positions.old debtor_positions.old bank_positions.old) }
-    ensures { (ledger result mandates.new collections.new creditors.new creditor_positions.new debtor_positions.new bank_positions.new)
-        ≡ run (ledger header mandates.old collections.old creditors.old creditor_positions.old debtor_positions.old bank_positions.old) (events_in events.now) }
+fn run_events(book: &mut BookMut, cells: &[u64])
+    requires { Safe (ledger_in book.old) }
+    ensures loans { SameLoans book.old book.new }
+    ensures run { ledger_in book.new ≡ run (ledger_in book.old) (events_in cells.now) }
 {
-    let n = events.len() / EVENT_CELLS;
-    let mut h = header;
-    let mut i: usize = 0;
-    while i < n {
-        let out = take_fit(
-            h,
-            event_at(events, i),
-            mandates,
-            collections,
-            creditors,
-            creditor_positions,
-            debtor_positions,
-            bank_positions,
-        );
-        h = out.header;
-        i += 1;
+    let (events, _) = cells.as_chunks::<FIELDS>();
+    for fields in events {
+        let _ = take_fit(book, Event::from(*fields));
     }
-    h
 }
 
 // Opens the ledger, and gives it every event of the list.
-pub fn replay(
-    header: Header,
-    events: &[u64],
-    mandates: &mut [u64],
-    collections: &mut [u64],
-    creditors: &mut [u64],
-    creditor_positions: &mut [i64],
-    debtor_positions: &mut [i64],
-    bank_positions: &mut [i64],
-) -> OpenOutcome
-    ensures { Replayed (ledger header mandates.old collections.old creditors.old creditor_positions.old debtor_positions.old bank_positions.old) (events_in events.now) result
-        (ledger result.header mandates.new collections.new creditors.new creditor_positions.new debtor_positions.new bank_positions.new) }
+pub fn replay(book: &mut BookMut, events: &[u64]) -> Result<(), Refusal>
+    ensures loans { SameLoans book.old book.new }
+    ensures replayed { Replayed (ledger_in book.old) (events_in events.now) result (ledger_in book.new) }
 {
-    let start = open_ledger(
-        header,
-        mandates,
-        collections,
-        creditors,
-        creditor_positions,
-        debtor_positions,
-        bank_positions,
-    );
-    let answer = start.answer;
-    let Ok(()) = answer else {
-        return start;
-    };
-    let last = run_events(
-        start.header,
-        events,
-        mandates,
-        collections,
-        creditors,
-        creditor_positions,
-        debtor_positions,
-        bank_positions,
-    );
-    OpenOutcome {
-        answer: Ok(()),
-        header: last,
-    }
+    open(book)?;
+    run_events(book, events);
+    Ok(())
 }

@@ -4,8 +4,12 @@ use Rattle.std.proofs.Common.{Err, Ok, Result}
 use mathlib.Core.Path.{◌≡◌, refl, sym, ap, ◌∙◌}
 use mathlib.Core.Bool.{true, false}
 use mathlib.Core.Logic.{⊎_elim}
-use mathlib.Core.List.{List}
-use Prim.Native.Nat.{ℕ, ◌+◌, ◌/◌}
+use mathlib.Core.List.{List, []}
+use Rattle.std.proofs.Math.Nat.{zero-mul, suc-mul}
+use Rattle.std.specs.Simd.{first_chunks}
+use Rattle.std.proofs.lemmas.List.{drop-drop}
+use Rattle.std.proofs.Common.{ℕ, zero, suc, ◌*◌, ◌<◌, get_or, take, drop}
+use Prim.Native.Nat.{◌+◌, ◌/◌}
 use native.Mathlib.Numerals.{add-one}
 use native.Mathlib.Omega.{arith}
 use lib.ListN.{length}
@@ -13,8 +17,7 @@ use Rattle.common.proofs.Tests.{never, true_or_false}
 use Rattle.refusals.specs.declared.Refusal.{Refusal}
 use Rattle.refusals.proofs.Laws.Refusals.{number_of_pos}
 use Rattle.events.specs.declared.Event.{Event}
-use Rattle.tables.specs.declared.Header.{Header}
-use Rattle.opening.specs.declared.OpenOutcome.{OpenOutcome}
+use Rattle.events.specs.Fields.{event_of}
 use Rattle.tables.specs.Ledger.{Ledger}
 use Rattle.fitness.specs.Fitness.{sizes_fit}
 use Rattle.opening.specs.Opening.{OpenResult, open_number, open_result, fresh, opened, opening}
@@ -23,9 +26,21 @@ use Rattle.model.specs.Step.{after, run}
 use Rattle.model.specs.Bounds.{Safe}
 use Rattle.model.proofs.Laws.Batch.{after_safe, run_more, opened_safe}
 use Rattle.model.proofs.Laws.Theorem.{demand3}
-use Rattle.checking.specs.declared.Outcome.{Outcome}
 use Rattle.book.specs.Events.{Taken}
 use Rattle.replay.specs.Replay.{event_cells, event_at, events_to, events_in, Replayed}
+
+-- ---- the cells of an event as a part of the list
+
+chunk_at : (n k i : ℕ) (xs : List ℕ) → i < k → get_or (first_chunks n k xs) i [] ≡ take n (drop (i * n) xs)
+chunk_at n zero i xs h = absurd (omega arith)
+chunk_at n (suc k) zero xs h = ap (λ (m : ℕ). take n (drop m xs)) (sym (zero-mul n))
+chunk_at n (suc k) (suc i) xs h =
+    chunk_at n k i (drop n xs) (omega arith)
+    ∙ ap (take n) (drop-drop (i * n) n xs ∙ ap (λ (m : ℕ). drop m xs) (omega (arith, suc-mul i n)))
+
+pub chunk_event : (xs : List ℕ) (i : ℕ) → i < length xs / event_cells → event_of (get_or (first_chunks event_cells (length xs / event_cells) xs) i []) ≡ event_at xs i
+unfolding event_at
+chunk_event xs i h = ap event_of (chunk_at event_cells (length xs / event_cells) i xs h)
 
 -- ---- the first i events have been given to l₀, and l is the ledger now
 
@@ -37,7 +52,7 @@ pub running_start : (events : List ℕ) (l : Ledger) → Safe l → Running even
 unfolding events_to run
 running_start events l s = record { safe = s; is = refl }
 
-pub running_step : (events : List ℕ) (l₀ l l' : Ledger) (i : ℕ) (e : Event) (r : Outcome) → Running events l₀ l i → e ≡ event_at events i → Taken l e r l' → Running events l₀ l' (i + 1)
+pub running_step : (events : List ℕ) (l₀ l l' : Ledger) (i : ℕ) (e : Event) (r : Result Unit Refusal) → Running events l₀ l i → e ≡ event_at events i → Taken l e r l' → Running events l₀ l' (i + 1)
 unfolding events_to
 running_step events l₀ l l' i e r h q t =
     record {
@@ -99,19 +114,19 @@ module _ (l l' : Ledger) (a : Result Unit Refusal) (e : open_result (open_number
 -- ---- the whole call
 
 module _ (l : Ledger) (events : List ℕ) where
-  pub replayed_refused : (r : OpenOutcome) (l' : Ledger) (x : Refusal) → r.answer ≡ Err x → open_result (open_number r.answer) l' ≡ opening l → Replayed l (events_in events) r l'
+  pub replayed_refused : (r : Result Unit Refusal) (l' : Ledger) (x : Refusal) → r ≡ Err x → open_result (open_number r) l' ≡ opening l → Replayed l (events_in events) r l'
   replayed_refused r l' x q e =
-      let w = was_refused l l' r.answer e x q in
-      let p = parts l l' r.answer e 2 l (opening_refused l w.sizes) in
+      let w = was_refused l l' r e x q in
+      let p = parts l l' r e 2 l (opening_refused l w.sizes) in
       record {
         answer = rw w.sizes p.0;
         after = rw w.sizes w.is;
         kept = λ z. absurd (never z w.sizes);
       }
 
-  pub replayed_done : (r : OpenOutcome) (h : Header) (l' l'' : Ledger) → r.answer ≡ (Ok tt) → open_result (open_number r.answer) l' ≡ opening l → l'' ≡ run l' (events_in events) → Replayed l (events_in events) (record { answer = (Ok tt); header = h }) l''
-  replayed_done r h l' l'' o e q =
-      let w = was_opened l l' r.answer e o in
+  pub replayed_done : (r : Result Unit Refusal) (l' l'' : Ledger) → r ≡ (Ok tt) → open_result (open_number r) l' ≡ opening l → l'' ≡ run l' (events_in events) → Replayed l (events_in events) (Ok tt) l''
+  replayed_done r l' l'' o e q =
+      let w = was_opened l l' r e o in
       record {
         answer = rw w.sizes;
         after = rw w.sizes (q ∙ ap (λ (x : Ledger). run x (events_in events)) w.is);

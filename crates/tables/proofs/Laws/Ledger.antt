@@ -1,5 +1,5 @@
 -- Laws of specs/Ledger: a creditor's bank, by the creditor's number. Assumes nothing.
-use mathlib.Core.Path.{◌≡◌, sym, ◌∙◌, ap}
+use mathlib.Core.Path.{◌≡◌, refl, sym, ◌∙◌, ap}
 use mathlib.Core.Bool.{true, not}
 use mathlib.Core.List.{List}
 use mathlib.Core.Logic.{◌≢◌, ⊎_elim}
@@ -9,7 +9,8 @@ use lib.Dec.{eqb, ltb}
 use lib.ListN.{length, get_or, set, get_or-eq_default}
 use lib.Seq.{get_or-set_same, get_or-set_other, set_out}
 use Rattle.common.proofs.Tests.{true_or_false, not_true}
-use Rattle.tables.specs.Ledger.{bank_of, added}
+use Rattle.tables.specs.declared.BookMut.{BookMut}
+use Rattle.tables.specs.Ledger.{SameLoans, bank_of, added}
 
 module _ (creditors : List ℕ) (number : ℕ) where
   pub bank_of_zero : number ≡ 0 → bank_of creditors number ≡ 0
@@ -54,3 +55,25 @@ module _ (creditors : List ℕ) (i bank : ℕ) (b : bank ≢ 0) where
   added_set number e =
       let was = added_facts creditors number e in
       added_made (set creditors i bank) number was.0 (entry_set (number - 1) was.1)
+
+-- ---- the loans of a book, through several calls
+
+pub same_loans : (a : BookMut) → SameLoans a a
+same_loans a = record {
+  mandates = refl;
+  collections = refl;
+  creditors = refl;
+  creditor_positions = refl;
+  debtor_positions = refl;
+  bank_positions = refl;
+}
+
+pub loans_then : (a b c : BookMut) → SameLoans a b → SameLoans b c → SameLoans a c
+loans_then a b c s t = record {
+  mandates = t.mandates ∙ s.mandates;
+  collections = t.collections ∙ s.collections;
+  creditors = t.creditors ∙ s.creditors;
+  creditor_positions = t.creditor_positions ∙ s.creditor_positions;
+  debtor_positions = t.debtor_positions ∙ s.debtor_positions;
+  bank_positions = t.bank_positions ∙ s.bank_positions;
+}

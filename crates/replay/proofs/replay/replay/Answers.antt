@@ -1,13 +1,14 @@
+use Rattle.std.proofs.Common.{◌≡◌, Err, rules, refl}
 use Rattle.replay.proofs.Laws.Replay.{was_opened, replayed_refused, replayed_done}
 use Rattle.replay.proofs.replay.replay.Goals as goal
 
-pub returns-in_default : goal.returns-in_default
-returns-in_default c = replayed_refused _ _ _ _ _ c.in_default.is c.open_ledger-start.ensures
+pub returns-in_err-open-clause-replayed : goal.returns-in_err-open-clause-replayed
+returns-in_err-open-clause-replayed c =
+    let refused : c.from_residual.result ≡ Err c.in_err-open.field-0.0 = search rules in
+    rw refused (replayed_refused _ _ _ _ _ refl (rw c.in_err-open.was at c.open.ensures.opening))
 
-pub run_events-last-requires : goal.run_events-last-requires
-run_events-last-requires c = (was_opened _ _ _ c.open_ledger-start.ensures c.in-Ok.is).safe
+pub run_events-requires : goal.run_events-requires
+run_events-requires c = (was_opened _ _ _ c.open.ensures.opening c.in_ok-open.was).safe
 
-pub returns : goal.returns
-returns c =
-    replayed_done _ _ c.open_ledger-start.result _ _ _ c.in-Ok.is c.open_ledger-start.ensures
-    c.run_events-last.ensures
+pub returns-clause-replayed : goal.returns-clause-replayed
+returns-clause-replayed c = replayed_done _ _ c.open.result _ _ c.in_ok-open.was c.open.ensures.opening c.run_events.ensures.run
