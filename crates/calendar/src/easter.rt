@@ -32,6 +32,7 @@ const EASTER: [u16; 200] = [
 ];
 
 // Easter Sunday of the year 2000 + k, as MMDD. Only this function reads the table.
+#[tactic(auto, using(crate::proofs::Laws::Easter::table_easter))]
 fn easter_in(k: u64) -> u64
     requires { k < 200 }
     ensures { result ≡ month_day (easter_sunday (first_year + k)) }
@@ -52,6 +53,7 @@ pub(crate) fn easter_place(k: u64, l: u64) -> u64
     }
 }
 
+#[tactic(auto, using(crate::proofs::Laws::Easter::easter_of_is, crate::proofs::Laws::Easter::table_years), unfolding(crate::specs::Easter::easter_of))]
 pub fn easter_sunday(y: u64) -> Option<u64>
     ensures { result ≡ easter_of y }
 {
@@ -62,6 +64,7 @@ pub fn easter_sunday(y: u64) -> Option<u64>
 }
 
 // The day number of Easter Sunday.
+#[tactic(auto, using(crate::proofs::Laws::Easter::easter_day_of_date, crate::proofs::Laws::Easter::easter_day_of_none))]
 pub fn easter_day(y: u64) -> Option<u64>
     ensures { result ≡ easter_day_of y }
 {

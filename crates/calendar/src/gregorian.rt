@@ -21,6 +21,7 @@ pub(crate) struct Place {
     pub(crate) day: u64,
 }
 
+#[tactic(auto, unfolding(crate::specs::Gregorian::leap))]
 pub fn is_leap(y: u64) -> bool
     ensures { result ≡ leap y }
 {
@@ -28,6 +29,7 @@ pub fn is_leap(y: u64) -> bool
 }
 
 // 1 in a leap year, else 0.
+#[tactic(auto, unfolding(crate::specs::Gregorian::leap_day))]
 pub fn leap_day(y: u64) -> u64
     ensures { result ≡ leap_day y }
 {
@@ -43,6 +45,7 @@ pub(crate) fn leap_day_in(y: u64) -> u64
 }
 
 // The days of a month of a year with l leap days.
+#[tactic(auto, unfolding(crate::specs::Gregorian::month_length))]
 fn month_length(l: u64, m: u64) -> u64
     requires { l ≤ 1 }
     ensures { result ≡ month_length l m }
@@ -55,6 +58,7 @@ fn month_length(l: u64, m: u64) -> u64
 }
 
 // The last day of the month m of the year y.
+#[tactic(auto, using(crate::proofs::Laws::Gregorian::leap_day_le))]
 pub fn last_of_month(y: u64, m: u64) -> u64
     ensures { result ≡ month_length (leap_day y) m }
 {
@@ -62,6 +66,7 @@ pub fn last_of_month(y: u64, m: u64) -> u64
 }
 
 // The same for a year of the calendar.
+#[tactic(auto, using(crate::proofs::Laws::Gregorian::leap_day_le))]
 pub(crate) fn last_in(y: u64, m: u64) -> u64
     requires { (first_year ≤ y) × (y ≤ last_year) }
     ensures { result ≡ month_length (leap_day y) m }
@@ -70,6 +75,7 @@ pub(crate) fn last_in(y: u64, m: u64) -> u64
 }
 
 // Whether x is a date of the calendar.
+#[tactic(auto, unfolding(crate::specs::Gregorian::is_date))]
 pub fn is_date(x: u64) -> bool
     ensures { result ≡ is_date x }
 {
@@ -83,6 +89,7 @@ pub fn is_date(x: u64) -> bool
 }
 
 // Whether x is a date that an event or a row may have.
+#[tactic(auto, unfolding(crate::specs::Gregorian::in_range))]
 pub fn in_range(x: u64) -> bool
     ensures { result ≡ in_range x }
 {
@@ -90,6 +97,7 @@ pub fn in_range(x: u64) -> bool
 }
 
 // The days before the month m in a year with l leap days.
+#[tactic(auto, unfolding(crate::specs::DayNumber::days_before))]
 fn days_before(l: u64, m: u64) -> u64
     requires { (l ≤ 1) × (1 ≤ m) × (m ≤ 12) }
     ensures { result ≡ days_before l m }
@@ -99,6 +107,7 @@ fn days_before(l: u64, m: u64) -> u64
 }
 
 // The days before the year 2000 + k. Of the years that 4 divides only 2100 has no leap day.
+#[tactic(auto, unfolding(crate::specs::DayNumber::year_start))]
 fn year_start(k: u64) -> u64
     requires { k ≤ 200 }
     ensures { result ≡ year_start k }
@@ -108,6 +117,7 @@ fn year_start(k: u64) -> u64
 }
 
 // The number of a date's day.
+#[tactic(auto, unfolding(crate::specs::DayNumber::day_number))]
 pub(crate) fn number(x: u64) -> u64
     requires { is_date x ≡ true }
     ensures { result ≡ day_number x }
@@ -118,6 +128,7 @@ pub(crate) fn number(x: u64) -> u64
     year_start(y - 2000) + days_before(leap_day_in(y), m) + (d - 1)
 }
 
+#[tactic(auto, unfolding(crate::specs::DayNumber::day_of))]
 pub fn day_number(x: u64) -> Option<u64>
     ensures { result ≡ day_of x }
 {
@@ -136,6 +147,7 @@ fn in_fours(n: u64) -> u64
 }
 
 // The year, from 2000, of the day n, and its day of that year, from 0.
+#[tactic(auto, using(crate::proofs::Laws::Years::by_fours))]
 pub(crate) fn place_of(n: u64) -> Place
     requires { n < calendar_days }
     ensures { (result.year ≡ year_at n) × (result.day ≡ n - year_start (year_at n)) }
@@ -149,6 +161,7 @@ pub(crate) fn place_of(n: u64) -> Place
 }
 
 // The month of the day r of a year with l leap days.
+#[tactic(auto, unfolding(crate::specs::DayNumber::month_at))]
 fn month_at(l: u64, r: u64) -> u64
     requires { (l ≤ 1) × (r < 365 + l) }
     ensures { result ≡ month_at l r }
@@ -165,6 +178,7 @@ fn month_at(l: u64, r: u64) -> u64
 }
 
 // The date of the day r of the year y.
+#[tactic(auto, unfolding(crate::specs::DayNumber::date_in))]
 fn date_in(y: u64, r: u64) -> u64
     requires { (first_year ≤ y) × (y ≤ last_year) × (r < 365 + leap_day y) }
     ensures { result ≡ date_in y r }
@@ -175,6 +189,7 @@ fn date_in(y: u64, r: u64) -> u64
 }
 
 // The date of the day n.
+#[tactic(auto, unfolding(crate::specs::DayNumber::date_at))]
 fn date_at(n: u64) -> u64
     requires { n < calendar_days }
     ensures { result ≡ date_at n }
@@ -183,6 +198,7 @@ fn date_at(n: u64) -> u64
     date_in(2000 + p.year, p.day)
 }
 
+#[tactic(auto, unfolding(crate::specs::DayNumber::date_of))]
 pub fn date_of(n: u64) -> Option<u64>
     ensures { result ≡ date_of n }
 {

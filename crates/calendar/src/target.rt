@@ -31,6 +31,7 @@ pub fn is_business_day(x: u64) -> bool
 }
 
 // Whether n is the number of a business day.
+#[tactic(auto, using(crate::proofs::Laws::Target::open_beyond, crate::proofs::Laws::Open::weekend_shut))]
 pub fn is_open(n: u64) -> bool
     ensures { result ≡ is_open n }
 {
@@ -66,6 +67,7 @@ pub fn date_of_day(d: Option<u64>) -> Option<u64>
 }
 
 // The first business day on or after a date.
+#[tactic(auto, using(crate::proofs::Laws::BusinessDates::first_business_day_day, crate::proofs::Laws::BusinessDates::first_business_day_none))]
 pub fn first_business_day(x: u64) -> Option<u64>
     ensures { result ≡ first_business_day x }
 {
@@ -73,6 +75,7 @@ pub fn first_business_day(x: u64) -> Option<u64>
 }
 
 // The last business day before a date.
+#[tactic(auto, using(crate::proofs::Laws::BusinessDates::last_business_day_day, crate::proofs::Laws::BusinessDates::last_business_day_none))]
 pub fn last_business_day_before(x: u64) -> Option<u64>
     ensures { result ≡ last_business_day_before x }
 {

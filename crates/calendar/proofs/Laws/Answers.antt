@@ -2,7 +2,8 @@
 -- Names: F-is gives F where the value exists; F-date and F-day read a value out of F, F-none its absence.
 -- Assumes nothing.
 use Rattle.std.proofs.Common.{None, Option, Some, ℕ}
-use mathlib.Core.Path.{◌≡◌, refl}
+use Rattle.std.proofs.lemmas.Option.{cond_some}
+use mathlib.Core.Path.{◌≡◌, refl, sym}
 use mathlib.Core.Bool.{Bool, true, false, cond}
 use Prim.Native.Nat.{ℕ, ◌+◌, ◌<◌, ◌≤◌}
 use native.Mathlib.Omega.{arith}
@@ -14,21 +15,9 @@ use Rattle.calendar.proofs.Laws.DayNumber.{day_number_lt}
 
 -- ---- an answer under a test
 
-pub cond_date : (b : Bool) (m x : ℕ) → cond b (Some m) None ≡ Some x → (b ≡ true) × (x ≡ m)
-cond_date true m x e = (refl, cc)
-cond_date false m x e = (cc, cc)
-
-pub cond_no_date : (b : Bool) (m : ℕ) → cond b (Some m) None ≡ None → b ≡ false
-cond_no_date true m e = cc
-cond_no_date false m e = refl
-
-pub cond_day : (b : Bool) (m n : ℕ) → cond b (Some m) None ≡ Some n → (b ≡ true) × (n ≡ m)
-cond_day true m n e = (refl, cc)
-cond_day false m n e = (cc, cc)
-
-pub cond_no_day : (b : Bool) (m : ℕ) → cond b (Some m) None ≡ None → b ≡ false
-cond_no_day true m e = cc
-cond_no_day false m e = refl
+pub cond_none : {A : Type 0} (b : Bool) (x : A) → cond b (Some x) None ≡ None → b ≡ false
+cond_none true x e = cc
+cond_none false x e = refl
 
 -- the answer is a date, not before the date x and at most some days later
 pub record DateAfter (x : ℕ) (answer : Option ℕ) (days : ℕ) : Type 0 where
@@ -46,7 +35,7 @@ day_of_is x e = rw e
 
 pub day_of_day_lem : (x n : ℕ) → day_of x ≡ Some n → (is_date x ≡ true) × (n ≡ day_number x)
 unfolding day_of
-day_of_day_lem x n e = cond_day (is_date x) (day_number x) n e
+day_of_day_lem x n e = let p = cond_some (is_date x) (day_number x) n e in (p.0, sym p.1)
 
 -- such days are of the calendar
 pub day_lt : (x n : ℕ) → day_of x ≡ Some n → n < calendar_days
@@ -54,7 +43,7 @@ day_lt x n e = let d = day_of_day_lem x n e in omega (arith, d.1, day_number_lt 
 
 pub day_of_none : (x : ℕ) → day_of x ≡ None → is_date x ≡ false
 unfolding day_of
-day_of_none x e = cond_no_day (is_date x) (day_number x) e
+day_of_none x e = cond_none (is_date x) (day_number x) e
 
 -- ---- date_of
 
@@ -69,8 +58,8 @@ date_of_beyond n h = rw (le-ltb n calendar_days h)
 pub date_of_date : (n x : ℕ) → date_of n ≡ Some x → (n < calendar_days) × (x ≡ date_at n)
 unfolding date_of
 date_of_date n x e =
-    let p = cond_date (ltb n calendar_days) (date_at n) x e in
-    (ltb-true n calendar_days p.0, p.1)
+    let p = cond_some (ltb n calendar_days) (date_at n) x e in
+    (ltb-true n calendar_days p.0, sym p.1)
 
 -- ---- in_calendar
 
@@ -85,12 +74,12 @@ in_calendar_beyond n h = rw (le-ltb n calendar_days h)
 pub in_calendar_day : (n m : ℕ) → in_calendar n ≡ Some m → (n < calendar_days) × (m ≡ n)
 unfolding in_calendar
 in_calendar_day n m e =
-    let p = cond_day (ltb n calendar_days) n m e in
-    (ltb-true n calendar_days p.0, p.1)
+    let p = cond_some (ltb n calendar_days) n m e in
+    (ltb-true n calendar_days p.0, sym p.1)
 
 pub in_calendar_none : (n : ℕ) → in_calendar n ≡ None → calendar_days ≤ n
 unfolding in_calendar
-in_calendar_none n e = ltb-false n calendar_days (cond_no_day (ltb n calendar_days) n e)
+in_calendar_none n e = ltb-false n calendar_days (cond_none (ltb n calendar_days) n e)
 
 -- ---- an answer for the day of a date
 

@@ -1,5 +1,6 @@
 -- Laws of specs/Target for dates: what the answers are.
--- To cite: `first_business_day_is`, `Kept` with `kept_due_lem` (a due date of the range is kept in it), `lastBusinessDay-before`. Assumes nothing.
+-- To cite: `first_business_day_is`, the laws named kept_date_F (the date to which a due date is kept), `kept_in_range` (it is in the range),
+-- `business_day_before`. Assumes nothing.
 use Rattle.std.proofs.Common.{None, Some}
 use mathlib.Core.Path.{◌≡◌, refl, sym, ap, ◌∙◌}
 use mathlib.Core.Bool.{Bool, true, false, cond}
@@ -44,10 +45,6 @@ first_business_day_none x e = rw (day_of_none x e)
 -- the date to which a due date is kept
 pub kept_date : ℕ → ℕ
 kept_date x = date_at (first_open (day_number x))
-
-pub kept_date_day : (x : ℕ) → kept_date x ≡ date_at (first_open (day_number x))
-unfolding kept_date
-kept_date_day x = refl
 
 module _ (x : ℕ) (h : is_date x ≡ true) where
   pub first_business_day_is : first_business_day x ≡ Some (kept_date x)

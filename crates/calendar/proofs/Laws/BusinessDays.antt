@@ -1,6 +1,7 @@
 -- Laws of specs/Target: the first business day on or after a day, the n-th after it, the last one before it.
--- To cite: `first_open_first`, `first_open_lt`, `first_open_near`, `first_open_mono`; `open_after_more`, `open_after_from`, `open_after_near`,
--- `open_after_mono`, `openAfter-count`; `last_open_is`, `last_open_exists`, `first_before`. Assumes nothing.
+-- To cite: `first_open_first`, `first_open_lt`, `first_open_near`, `first_open_mono`, `first_open_found`; `open_after_more`, `open_after_from`,
+-- `open_after_near`, `open_after_mono`, `open_after_mono_count`; `last_open_is`, `last_open_exists`, `first_before`, and `yields_back` with
+-- `last_open_found`. Assumes nothing.
 use Rattle.std.proofs.Common.{None, Option, Some, MatchOption, List, [], ◌∷◌}
 use Rattle.std.specs.Option.{option_map}
 use Rattle.std.specs.List.{find}
@@ -71,12 +72,6 @@ pub first_open_mono : (n m : ℕ) → n ≤ m → m < calendar_days → first_op
 first_open_mono n m l h =
     first_mono n m (first_open n) (first_open m) l (first_open_first n (omega arith)) (first_open_first m h)
 
-pub first_open_open : (n : ℕ) → is_open n ≡ true → first_open n ≡ n
-first_open_open n e = first_open_is n n (first_here n e)
-
-pub first_open_closed : (n : ℕ) → n < calendar_days → is_open n ≡ false → first_open n ≡ first_open (n + 1)
-first_open_closed n h e = first_open_is n (first_open (n + 1)) (first_later n _ e (first_open_first (n + 1) (closed_not_last n h e)))
-
 seek_from_case : (b : Bool) (f n : ℕ) → n + 1 ≤ seek f (n + 1) → n ≤ cond b n (seek f (n + 1))
 seek_from_case true f n h = omega arith
 seek_from_case false f n h = omega arith
@@ -90,6 +85,23 @@ seek_from (suc f) n = seek_from_case (is_open n) f n (seek_from f (n + 1))
 pub first_open_from : (n : ℕ) → n ≤ first_open n
 unfolding first_open
 first_open_from n = seek_from 4 n
+
+-- what a search along the days from n on finds
+pub first_open_found :
+    (n : ℕ) (r : Option ℕ)
+    → MatchOption r ((j : ℕ) → n ≤ j → j < calendar_days → is_open j ≡ false)
+    (λ d. (n ≤ d) × (d < calendar_days) × (is_open d ≡ true) × ((j : ℕ) → n ≤ j → j < d → is_open j ≡ false))
+    → r ≡ in_calendar (first_open n)
+first_open_found n (Some d) f =
+    let e = first_open_is n d (record { from = f.0; is_open_lem = f.2; shut = f.3 }) in
+    rw e (sym (in_calendar_is d f.1))
+first_open_found n None shut =
+    elim (dec_le calendar_days n) [
+      | yes h ↦ sym (in_calendar_beyond (first_open n) (omega (arith, first_open_from n)))
+      | no h ↦
+          let f = first_open_first n (omega arith) in
+          absurd (never f.is_open_lem (shut (first_open n) f.from (first_open_lt n (omega arith))))
+    ]
 
 -- ---- open_after
 
@@ -157,21 +169,6 @@ last_rest n r e l =
     let q : ¬ (r ≡ n) = λ i. never l.is_open_lem (rw (← i) at e) in
     record { before = omega (arith, l.before); is_open_lem = l.is_open_lem; shut = λ j a b. l.shut j a (omega arith) }
 
--- one day back
-pub last_open_hit : (n : ℕ) → 1 ≤ n → is_open (n - 1) ≡ true → last_open_before n ≡ Some (n - 1)
-unfolding last_open_before
-last_open_hit (suc n) h e = let p : suc n - 1 ≡ n = omega arith in rw p (rw (rw p at e))
-last_open_hit zero h e = absurd (omega arith)
-
-pub last_open_miss : (n : ℕ) → 1 ≤ n → is_open (n - 1) ≡ false → last_open_before n ≡ last_open_before (n - 1)
-unfolding last_open_before
-last_open_miss (suc n) h e = let p : suc n - 1 ≡ n = omega arith in rw p (rw (rw p at e))
-last_open_miss zero h e = absurd (omega arith)
-
-pub last_open_none : last_open_before 0 ≡ None
-unfolding last_open_before
-last_open_none = refl
-
 is_case : (b : Bool) (n r : ℕ) → is_open n ≡ b → Last (suc n) r → (Last n r → last_open_before n ≡ Some r) → cond b (Some n) (last_open_before n) ≡ Some r
 is_case true n r e l ih = ap Some (last_unique (suc n) n r (last_here n e) l)
 is_case false n r e l ih = ih (last_rest n r e l)
@@ -181,6 +178,28 @@ pub last_open_is : (n r : ℕ) → Last n r → last_open_before n ≡ Some r
 unfolding last_open_before
 last_open_is zero r l = absurd (omega (arith, l.before))
 last_open_is (suc n) r l = is_case (is_open n) n r refl l (last_open_is n r)
+
+-- the days before the day n, the last one first: an iterator over them from the back gives them so
+pub days_back : ℕ → List ℕ
+days_back zero = []
+days_back (suc n) = n ∷ days_back n
+
+gives_back : (n : ℕ) (s : Range ℕ) → s.start ≡ 0 → s.end ≡ n → AlwaysYields nat_range_steps_back (λ x. x) s (days_back n)
+unfolding days_back
+gives_back zero s e f = λ x j p. omega (arith, p.1)
+gives_back (suc n) s e f = ((λ j p. omega (arith, p.1)), λ x j p. (omega (arith, p.1), gives_back n j (p.0 ∙ e) (omega (arith, p.1))))
+
+pub yields_back : (n : ℕ) → YieldsList nat_range_steps_back (λ x. x) (record { start = 0; end = n }) (days_back n)
+yields_back n = record { runs = gives_back n (record { start = 0; end = n }) refl refl }
+
+find_back : (n : ℕ) → find is_open (days_back n) ≡ last_open_before n
+unfolding days_back last_open_before
+find_back zero = refl
+find_back (suc n) = rw (find_back n)
+
+pub last_open_found : (n : ℕ) (r : Option ℕ) → option_map (λ x. x) r ≡ find is_open (days_back n) → r ≡ last_open_before n
+last_open_found n None e = e ∙ find_back n
+last_open_found n (Some d) e = e ∙ find_back n
 
 -- where an open day is known, the last one is not before it
 record LastFrom (n r : ℕ) : Type 0 where
@@ -229,43 +248,3 @@ pub last_mono : (n m r s : ℕ) → n ≤ m → Last n r → Last m s → r ≤ 
 last_mono n m r s h a b =
     let p : ¬ (s < r) = λ l. never a.is_open_lem (b.shut r l (omega (arith, a.before))) in
     omega arith
-
--- ---- what a search along the days tells
-
-pub first_open_found :
-    (n : ℕ) (r : Option ℕ)
-    → MatchOption r ((j : ℕ) → n ≤ j → j < calendar_days → is_open j ≡ false)
-    (λ d. (n ≤ d) × (d < calendar_days) × (is_open d ≡ true) × ((j : ℕ) → n ≤ j → j < d → is_open j ≡ false))
-    → r ≡ in_calendar (first_open n)
-first_open_found n (Some d) f =
-    let e = first_open_is n d (record { from = f.0; is_open_lem = f.2; shut = f.3 }) in
-    rw e (sym (in_calendar_is d f.1))
-first_open_found n None shut =
-    elim (dec_le calendar_days n) [
-      | yes h ↦ sym (in_calendar_beyond (first_open n) (omega (arith, first_open_from n)))
-      | no h ↦
-          let f = first_open_first n (omega arith) in
-          absurd (never f.is_open_lem (shut (first_open n) f.from (first_open_lt n (omega arith))))
-    ]
-
--- the days before the day n, the last one first: an iterator over them from the back gives them so
-pub days_back : ℕ → List ℕ
-days_back zero = []
-days_back (suc n) = n ∷ days_back n
-
-gives_back : (n : ℕ) (s : Range ℕ) → s.start ≡ 0 → s.end ≡ n → AlwaysYields nat_range_steps_back (λ x. x) s (days_back n)
-unfolding days_back
-gives_back zero s e f = λ x j p. omega (arith, p.1)
-gives_back (suc n) s e f = ((λ j p. omega (arith, p.1)), λ x j p. (omega (arith, p.1), gives_back n j (p.0 ∙ e) (omega (arith, p.1))))
-
-pub yields_back : (n : ℕ) → YieldsList nat_range_steps_back (λ x. x) (record { start = 0; end = n }) (days_back n)
-yields_back n = record { runs = gives_back n (record { start = 0; end = n }) refl refl }
-
-find_back : (n : ℕ) → find is_open (days_back n) ≡ last_open_before n
-unfolding days_back last_open_before
-find_back zero = refl
-find_back (suc n) = rw (find_back n)
-
-pub last_open_found : (n : ℕ) (r : Option ℕ) → option_map (λ x. x) r ≡ find is_open (days_back n) → r ≡ last_open_before n
-last_open_found n None e = e ∙ find_back n
-last_open_found n (Some d) e = e ∙ find_back n

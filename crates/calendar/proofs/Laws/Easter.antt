@@ -1,6 +1,7 @@
 -- Laws of specs/Easter: the table of the code, and where Easter lies.
 -- To cite: `table_easter` (the table is the computus), `EasterFacts` with `easter_facts`. Assumes nothing.
 use Rattle.std.proofs.Common.{None, Some}
+use Rattle.std.proofs.lemmas.Option.{cond_some}
 use mathlib.Core.Path.{◌≡◌, sym, ap}
 use mathlib.Core.List.{List, [], ◌∷◌}
 use mathlib.Core.Bool.{Bool, true, cond}
@@ -16,7 +17,7 @@ use Rattle.common.specs.Tests.{all_of}
 use Rattle.calendar.specs.Gregorian.{year, month_day, leap, leap_day, month_length, is_date, first_year, last_year}
 use Rattle.calendar.specs.DayNumber.{year_start, days_before, day_number, day_of}
 use Rattle.calendar.specs.Easter.{computus, easter_sunday, in_table, easter_of, easter_day_of}
-use Rattle.calendar.proofs.Laws.Answers.{cond_date, cond_no_date, day_of_is}
+use Rattle.calendar.proofs.Laws.Answers.{cond_none, day_of_is}
 
 -- ---- the table
 
@@ -125,10 +126,10 @@ easter_of_is y e =
 pub easter_day_of_date : (y x : ℕ) → easter_of y ≡ Some x → easter_day_of y ≡ day_of x
 unfolding easter_of easter_day_of
 easter_day_of_date y x e =
-    let p = cond_date (in_table y) (easter_sunday y) x e in
+    let p = cond_some (in_table y) (easter_sunday y) x e in
     let h = table_years y p.0 in
-    rw (p.0, p.1) (sym (day_of_is _ (easter_facts y h.0 h.1).is_date_lem))
+    rw (p.0, ← p.1) (sym (day_of_is _ (easter_facts y h.0 h.1).is_date_lem))
 
 pub easter_day_of_none : (y : ℕ) → easter_of y ≡ None → easter_day_of y ≡ None
 unfolding easter_of easter_day_of
-easter_day_of_none y e = rw (cond_no_date (in_table y) (easter_sunday y) e)
+easter_day_of_none y e = rw (cond_none (in_table y) (easter_sunday y) e)

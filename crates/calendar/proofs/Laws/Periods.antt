@@ -2,6 +2,7 @@
 -- To cite: the laws named F-day and F-none (from a date that there is, or is not), `months_after_is`, `period_end_is`,
 -- `period_end_steps`, `period_end_day`, `is_after_date_of`, `is_after_days_after`, `not_after_last`. Assumes nothing.
 use Rattle.std.proofs.Common.{None, Option, Some}
+use Rattle.std.proofs.lemmas.Option.{cond_some}
 use mathlib.Core.Path.{◌≡◌, refl, sym, ap, ◌∙◌}
 use mathlib.Core.Bool.{Bool, true, false, cond, not, ◌&&◌}
 use Prim.Native.Nat.{ℕ, ◌+◌, ◌-◌, ◌*◌, ◌/◌, ◌%◌, ◌≤◌, ◌<◌}
@@ -19,7 +20,7 @@ use Rattle.calendar.specs.declared.BusinessDays.{BusinessDays}
 use Rattle.calendar.specs.declared.Months.{Months}
 use Rattle.calendar.specs.declared.Period.{Period}
 use Rattle.calendar.proofs.Laws.DayNumber.{day_number_lt, date_at_date, day_number_date_at, day_number_mono, day_number_mono_le, day_number_reflects, day_number_reflects_le}
-use Rattle.calendar.proofs.Laws.Answers.{cond_date, date_of_is, date_of_beyond, day_of_day_lem, day_of_none}
+use Rattle.calendar.proofs.Laws.Answers.{date_of_is, date_of_beyond, day_of_day_lem, day_of_none}
 use Rattle.calendar.proofs.Laws.BusinessDays.{last_open_exists, first_before}
 
 -- ---- days_after
@@ -113,9 +114,9 @@ pub record MonthsDate (n : Months) (x r : ℕ) : Type 0 where
 pub months_after_date : (n : Months) (x r : ℕ) → months_after n x ≡ Some r → MonthsDate n x r
 unfolding months_after
 months_after_date n x r e =
-    let p = cond_date (is_date x && ltb (month_count n.0 x) ((last_year + 1) * 12)) _ r e in
+    let p = cond_some (is_date x && ltb (month_count n.0 x) ((last_year + 1) * 12)) _ r e in
     let q = and_halves (is_date x) p.0 in
-    record { is_date_lem = q.0; inside = ltb-true _ _ q.1; is = p.1 }
+    record { is_date_lem = q.0; inside = ltb-true _ _ q.1; is = sym p.1 }
 
 pub month_count_is : (n x : ℕ) → month_count n x ≡ year x * 12 + (month x - 1) + n
 unfolding month_count

@@ -1,5 +1,5 @@
 -- Laws of specs/Target: business days, and the first one on or after a day.
--- To cite: `open_date` (a day is open when its date is a business day), `open_lt`, `first_unique`. Assumes nothing.
+-- To cite: `open_date` and `day_business` (a day is open when its date is a business day), `open_lt`, `first_unique`. Assumes nothing.
 use Rattle.std.proofs.Common.{None, Some, MatchOption}
 use mathlib.Core.Path.{◌≡◌, refl, ap, ◌∙◌}
 use mathlib.Core.Bool.{Bool, true, false, cond, not}
@@ -17,10 +17,6 @@ use Rattle.calendar.specs.Target.{closed_by, closed, business_day, is_open, Firs
 use Rattle.calendar.proofs.Laws.DayNumber.{date_at_date, day_number_date_at, year_date_at, date_at_day_number, day_number_lt}
 
 -- ---- business_day
-
-pub business_date : (x : ℕ) → business_day x ≡ true → is_date x ≡ true
-unfolding business_day
-business_date x e = (and_halves (is_date x) e).0
 
 pub business_is : (x : ℕ) → is_date x ≡ true → business_day x ≡ not (closed x)
 unfolding business_day
@@ -46,6 +42,15 @@ open_at n h = rw (lt-ltb n calendar_days h)
 
 pub open_date : (x : ℕ) → is_date x ≡ true → is_open (day_number x) ≡ business_day x
 open_date x e = open_at (day_number x) (day_number_lt x e) ∙ ap business_day (date_at_day_number x e)
+
+-- a date's day, if there is one, is a business day when the date is
+pub day_business : (x : ℕ) → MatchOption (day_of x) (business_day x ≡ false) (λ n. is_open n ≡ business_day x)
+unfolding day_of
+day_business x = day_business_case (is_date x) refl
+  where
+    day_business_case : (b : Bool) → is_date x ≡ b → MatchOption (cond b (Some (day_number x)) None) (business_day x ≡ false) (λ n. is_open n ≡ business_day x)
+    day_business_case true e = open_date x e
+    day_business_case false e = no_date_no_business x e
 
 -- by the eight tests of the day itself
 pub open_tests : (n : ℕ) → n < calendar_days → is_open n ≡ not (closed_by n (month_day (date_at n)) (day_number (easter_sunday (first_year + year_at n))))
@@ -95,12 +100,3 @@ pub first_mono : (n m r s : ℕ) → n ≤ m → First n r → First m s → r �
 first_mono n m r s h a b =
     let p : ¬ (s < r) = λ l. never b.is_open_lem (a.shut s (omega (arith, b.from)) l) in
     omega arith
-
--- a date's day, if there is one, is a business day when the date is
-pub day_business : (x : ℕ) → MatchOption (day_of x) (business_day x ≡ false) (λ n. is_open n ≡ business_day x)
-unfolding day_of
-day_business x = day_business_case (is_date x) refl
-  where
-    day_business_case : (b : Bool) → is_date x ≡ b → MatchOption (cond b (Some (day_number x)) None) (business_day x ≡ false) (λ n. is_open n ≡ business_day x)
-    day_business_case true e = open_date x e
-    day_business_case false e = no_date_no_business x e

@@ -1,4 +1,4 @@
--- The year of a day. To cite: `year_start_next`, `YearOf`, `year_at_of`, `year_unique`, `by_fours`, `by_fours_le`. Assumes nothing.
+-- The year of a day. To cite: `year_start_next`, `YearOf`, `year_at_of`, `year_unique`, `by_fours`. Assumes nothing.
 use mathlib.Core.Path.{◌≡◌, refl, ap, ◌∙◌}
 use mathlib.Core.Bool.{Bool, true, false, cond, ◌&&◌}
 use mathlib.Core.Logic.{⊎_elim}
@@ -136,10 +136,3 @@ fours_case false n e h = from_2101 n (ltb-false n 36890 e) h
 
 pub by_fours : (n m : ℕ) → n < calendar_days → m ≡ cond (ltb n 36890) n (n + 1) → ByFours n m (4 * m / 1461)
 by_fours n m h e = rw e (fours_case (ltb n 36890) n refl h)
-
-fours_le : (b : Bool) (n : ℕ) → n < calendar_days → cond b n (n + 1) ≤ calendar_days
-fours_le true n h = omega arith
-fours_le false n h = omega arith
-
-pub by_fours_le : (n m : ℕ) → n < calendar_days → m ≡ cond (ltb n 36890) n (n + 1) → m ≤ calendar_days
-by_fours_le n m h e = rw e (fours_le (ltb n 36890) n h)

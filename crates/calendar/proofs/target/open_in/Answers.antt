@@ -1,80 +1,63 @@
 use Rattle.calendar.proofs.Laws.Open.{fixed, leap_in, day_in, sunday_in, near_sunday, fixed_shut, far_open, near_open}
 use Rattle.calendar.proofs.Laws.Gregorian.{leap_day_le}
-use Rattle.calendar.proofs.Laws.Years.{YearOf, year_at_of}
+use Rattle.calendar.proofs.Laws.Years.{year_at_of}
 use Rattle.calendar.specs.Gregorian.{leap_day, first_year}
+use Rattle.calendar.specs.DayNumber.{year_start, day_number, year_at}
+use Rattle.calendar.specs.Easter.{easter_sunday}
 use Rattle.common.specs.Tests.{any_of}
-use Rattle.common.proofs.Tests.{or_cases}
-use mathlib.Core.Bool.{true, false}
-use lib.Dec.{ltb}
-use mathlib.Core.Logic.{⊎_elim, inl, inr}
-use mathlib.Core.Path.{◌≡◌, sym, ◌∙◌, ap}
+use Rattle.std.proofs.lemmas.Grind.{common_steps}
+use mathlib.Core.Bool.{Bool}
+use mathlib.Core.Logic.{◌⊎◌}
+use mathlib.Core.Path.{◌≡◌, sym}
 use native.Mathlib.Omega.{arith}
-use Prim.Native.Nat.{ℕ, ◌+◌, ◌≤◌}
-use borrow.Author.Tests.{ltb-true}
+use Prim.Native.Nat.{ℕ, ◌+◌, ◌<◌}
 use Rattle.calendar.proofs.target.open_in.Goals as goal
 
+-- what the code knows of the day's year, said of the day
+fixed_in : (n k r l : ℕ) (b : Bool) → k ≡ year_at n → r ≡ day_in n → l ≡ leap_day (first_year + k) → any_of (fixed l r) ≡ b → any_of (fixed (leap_in n) (day_in n)) ≡ b
+fixed_in n k r l b e f g h = rw (f, g, e) at h
+
+sunday_is : (n k s : ℕ) → k ≡ year_at n → year_start k + s ≡ day_number (easter_sunday (first_year + k)) → s ≡ sunday_in n
+sunday_is n k s e f = let g = rw e at f in omega (arith, g)
+
 pub overflow_add-k : goal.overflow_add-k
-overflow_add-k c =
-    let year : YearOf c.args.n c.args.k = rw c.requires.2 (year_at_of c.args.n c.requires.0) in
-    omega (arith, year)
+overflow_add-k c = omega (arith, c.requires.2, year_at_of c.args.n c.requires.0)
 
 pub leap_day_in-l-requires : goal.leap_day_in-l-requires
-leap_day_in-l-requires c =
-    let year : YearOf c.args.n c.args.k = rw c.requires.2 (year_at_of c.args.n c.requires.0) in
-    (omega arith, omega (arith, year))
+leap_day_in-l-requires c = (omega arith, omega (arith, c.requires.2, year_at_of c.args.n c.requires.0))
 
 pub overflow_add-l : goal.overflow_add-l
-overflow_add-l c =
-    let leap_le : c.leap_day_in-l.result ≤ 1 = rw c.leap_day_in-l.ensures (leap_day_le (first_year + c.args.k)) in
-    omega (arith, leap_le)
+overflow_add-l c = omega (arith, c.leap_day_in-l.ensures, leap_day_le (first_year + c.args.k))
 
 pub overflow_add-l-2 : goal.overflow_add-l-2
-overflow_add-l-2 c =
-    let leap_le : c.leap_day_in-l.result ≤ 1 = rw c.leap_day_in-l.ensures (leap_day_le (first_year + c.args.k)) in
-    omega (arith, leap_le)
+overflow_add-l-2 c = omega (arith, c.leap_day_in-l.ensures, leap_day_le (first_year + c.args.k))
 
 pub overflow_add-l-3 : goal.overflow_add-l-3
-overflow_add-l-3 c =
-    let leap_le : c.leap_day_in-l.result ≤ 1 = rw c.leap_day_in-l.ensures (leap_day_le (first_year + c.args.k)) in
-    omega (arith, leap_le)
+overflow_add-l-3 c = omega (arith, c.leap_day_in-l.ensures, leap_day_le (first_year + c.args.k))
 
 pub returns-then-r-l : goal.returns-then-r-l
 returns-then-r-l c =
-    let day_in_lem : c.args.r ≡ day_in c.args.n = c.requires.3 in
-    let leap_in_lem : c.leap_day_in-l.result ≡ leap_in c.args.n = c.leap_day_in-l.ensures ∙ ap (λ (k : ℕ). leap_day (first_year + k)) c.requires.2 in
-    let s = c in
-    sym (fixed_shut _ s.requires.0 (rw (← leap_in_lem, ← day_in_lem) c.if-r-l.true))
+    sym (fixed_shut _ c.requires.0 (fixed_in _ _ _ _ _ c.requires.2 c.requires.3 c.leap_day_in-l.ensures c.if-r-l.true))
 
 pub returns-then-r : goal.returns-then-r
 returns-then-r c =
-    let day_in_lem : c.args.r ≡ day_in c.args.n = c.requires.3 in
-    let leap_in_lem : c.leap_day_in-l.result ≡ leap_in c.args.n = c.leap_day_in-l.ensures ∙ ap (λ (k : ℕ). leap_day (first_year + k)) c.requires.2 in
-    let no_fixed : any_of (fixed (leap_in c.args.n) (day_in c.args.n)) ≡ false = rw (← leap_in_lem, ← day_in_lem) c.if-r-l.false in
-    let s = c in
-    let d = day_in_lem in
+    let far : (day_in c.args.n < 78) ⊎ (116 < day_in c.args.n) = grind (arith, common_steps) in
     sym
-    (far_open _ s.requires.0 s.requires.1 no_fixed
-    (⊎_elim (λ (p : ltb s.args.r 78 ≡ true). inl (omega (arith, ltb-true s.args.r 78 p)))
-    (λ (p : ltb 116 s.args.r ≡ true). inr (omega (arith, ltb-true 116 s.args.r p)))
-    (or_cases (ltb s.args.r 78) c.if-r.true)))
+    (far_open _ c.requires.0 c.requires.1
+    (fixed_in _ _ _ _ _ c.requires.2 c.requires.3 c.leap_day_in-l.ensures c.if-r-l.false)
+    far)
 
 pub easter_place-sunday-requires : goal.easter_place-sunday-requires
 easter_place-sunday-requires c =
-    let year : YearOf c.args.n c.args.k = rw c.requires.2 (year_at_of c.args.n c.requires.0) in
-    (year.in_table, c.leap_day_in-l.ensures)
+    (omega (arith, c.requires.2, year_at_of c.args.n c.requires.0), c.leap_day_in-l.ensures)
 
 pub overflow_add-result-2 : goal.overflow_add-result-2
 overflow_add-result-2 c =
-    let sunday : c.easter_place-sunday.result ≡ sunday_in c.args.n = let e = rw c.requires.2 at c.easter_place-sunday.ensures in
-    omega (arith, e) in
-    omega (arith, sunday, near_sunday _ c.requires.0)
+    let s = sunday_is c.args.n c.args.k c.easter_place-sunday.result c.requires.2 c.easter_place-sunday.ensures in
+    omega (arith, s, near_sunday c.args.n c.requires.0)
 
 pub returns : goal.returns
 returns c =
-    let day_in_lem : c.args.r ≡ day_in c.args.n = c.requires.3 in
-    let leap_in_lem : c.leap_day_in-l.result ≡ leap_in c.args.n = c.leap_day_in-l.ensures ∙ ap (λ (k : ℕ). leap_day (first_year + k)) c.requires.2 in
-    let no_fixed : any_of (fixed (leap_in c.args.n) (day_in c.args.n)) ≡ false = rw (← leap_in_lem, ← day_in_lem) c.if-r-l.false in
-    let sunday : c.easter_place-sunday.result ≡ sunday_in c.args.n = let e = rw c.requires.2 at c.easter_place-sunday.ensures in
-    omega (arith, e) in
-    let s = c in
-    rw (day_in_lem, sunday) (near_open _ s.requires.0 s.requires.1 no_fixed)
+    rw (c.requires.3, sunday_is _ _ _ c.requires.2 c.easter_place-sunday.ensures)
+    (near_open _ c.requires.0 c.requires.1
+    (fixed_in _ _ _ _ _ c.requires.2 c.requires.3 c.leap_day_in-l.ensures c.if-r-l.false))
