@@ -13,4 +13,5 @@ pub mod BusinessDates  -- the same for dates; a due date of the range is kept in
 pub mod Periods  -- calendar days, business days and months after a date
 pub mod MonthCounts  -- the date some months after another, and how far it lies
 pub mod PeriodEnds  -- every period from a date of the range ends in the calendar, and ends keep the order
+pub mod Rules  -- the laws that the functions of src/ need
 pub mod Promises  -- the promises of specs/Promises, proved

@@ -41,6 +41,7 @@ fn easter_in(k: u64) -> u64
 }
 
 // The day, from 0, of the year 2000 + k, with l leap days, that is Easter Sunday.
+#[tactic(auto, using(crate::proofs::Laws::Gregorian::leap_day_le))]
 pub(crate) fn easter_place(k: u64, l: u64) -> u64
     requires { (k < 200) × (l ≡ leap_day (first_year + k)) }
     ensures { year_start k + result ≡ day_number (easter_sunday (first_year + k)) }
@@ -53,7 +54,7 @@ pub(crate) fn easter_place(k: u64, l: u64) -> u64
     }
 }
 
-#[tactic(auto, using(crate::proofs::Laws::Easter::easter_of_is, crate::proofs::Laws::Easter::table_years), unfolding(crate::specs::Easter::easter_of))]
+#[tactic(auto, using(crate::proofs::Laws::Rules::of_easter_sunday), unfolding(crate::specs::Easter::easter_of))]
 pub fn easter_sunday(y: u64) -> Option<u64>
     ensures { result ≡ easter_of y }
 {
@@ -64,7 +65,7 @@ pub fn easter_sunday(y: u64) -> Option<u64>
 }
 
 // The day number of Easter Sunday.
-#[tactic(auto, using(crate::proofs::Laws::Easter::easter_day_of_date, crate::proofs::Laws::Easter::easter_day_of_none))]
+#[tactic(auto, using(crate::proofs::Laws::Rules::of_easter_day))]
 pub fn easter_day(y: u64) -> Option<u64>
     ensures { result ≡ easter_day_of y }
 {

@@ -36,7 +36,8 @@ pub fn leap_day(y: u64) -> u64
     u64::from(is_leap(y))
 }
 
-// The same for a year of the calendar: of those that 4 divides only 2100 is none.
+// The same for a year of the calendar: of those that 4 divides only 2100 is none. It is another way to reckon, and a
+// faster one, so it is no instance of leap_day.
 pub(crate) fn leap_day_in(y: u64) -> u64
     requires { (first_year ≤ y) × (y ≤ last_year) }
     ensures { result ≡ leap_day y }
@@ -117,7 +118,7 @@ fn year_start(k: u64) -> u64
 }
 
 // The number of a date's day.
-#[tactic(auto, unfolding(crate::specs::DayNumber::day_number))]
+#[tactic(auto, using(crate::proofs::Laws::Rules::of_number), unfolding(crate::specs::DayNumber::day_number))]
 pub(crate) fn number(x: u64) -> u64
     requires { is_date x ≡ true }
     ensures { result ≡ day_number x }
@@ -178,7 +179,7 @@ fn month_at(l: u64, r: u64) -> u64
 }
 
 // The date of the day r of the year y.
-#[tactic(auto, unfolding(crate::specs::DayNumber::date_in))]
+#[tactic(auto, using(crate::proofs::Laws::Rules::of_date_in), unfolding(crate::specs::DayNumber::date_in))]
 fn date_in(y: u64, r: u64) -> u64
     requires { (first_year ≤ y) × (y ≤ last_year) × (r < 365 + leap_day y) }
     ensures { result ≡ date_in y r }
@@ -189,7 +190,7 @@ fn date_in(y: u64, r: u64) -> u64
 }
 
 // The date of the day n.
-#[tactic(auto, unfolding(crate::specs::DayNumber::date_at))]
+#[tactic(auto, using(crate::proofs::Laws::Rules::of_date_at), unfolding(crate::specs::DayNumber::date_at))]
 fn date_at(n: u64) -> u64
     requires { n < calendar_days }
     ensures { result ≡ date_at n }

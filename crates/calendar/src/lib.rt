@@ -1,6 +1,6 @@
 // The calendar of document 01: Gregorian dates, TARGET business days, and periods counted in them.
 // A date is the number YYYYMMDD. The calendar has the years 2000 to 2199, and every public function answers for
-// any number whatever: an enum says where there is no date.
+// any number whatever: it gives None where there is no date.
 #![tactic(auto)]
 
 pub mod easter;
@@ -8,7 +8,8 @@ pub mod gregorian;
 pub mod periods;
 pub mod target;
 
-// A count of calendar days. It is never added to a count of business days.
+// A count of calendar days. It is never added to a count of business days: three types keep three units apart, and one
+// generic over a unit would be no plainer.
 #[derive(Clone, Copy, Debug, PartialEq, Eq)]
 pub struct CalendarDays(pub u64);
 

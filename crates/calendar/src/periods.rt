@@ -11,7 +11,7 @@ use crate::{BusinessDays, CalendarDays, Months, Period, gregorian, target};
 const MONTHS: u64 = 26400;
 
 // The date n calendar days after a date.
-#[tactic(auto, using(crate::proofs::Laws::Periods::days_after_day, crate::proofs::Laws::Periods::days_after_none))]
+#[tactic(auto, using(crate::proofs::Laws::Rules::of_days_after))]
 pub fn days_after(x: u64, n: CalendarDays) -> Option<u64>
     ensures { result ≡ days_after n x }
 {
@@ -20,7 +20,7 @@ pub fn days_after(x: u64, n: CalendarDays) -> Option<u64>
 }
 
 // The calendar days from the date x to the date y, which is not before it.
-#[tactic(auto, using(crate::proofs::Laws::Periods::days_between_days, crate::proofs::Laws::Periods::days_between_later, crate::proofs::Laws::Periods::days_between_no_start, crate::proofs::Laws::Periods::days_between_no_end))]
+#[tactic(auto, using(crate::proofs::Laws::Rules::of_days_between))]
 pub fn days_between(x: u64, y: u64) -> Option<CalendarDays>
     ensures { result ≡ days_between x y }
 {
@@ -30,6 +30,7 @@ pub fn days_between(x: u64, y: u64) -> Option<CalendarDays>
 }
 
 // The n-th business day after the day d.
+#[tactic(auto, using(crate::proofs::Laws::Rules::of_open_after))]
 fn open_after(d: u64, n: u64) -> Option<u64>
     requires { d < calendar_days }
     ensures { result ≡ date_of (open_after n d) }
@@ -42,7 +43,7 @@ fn open_after(d: u64, n: u64) -> Option<u64>
 }
 
 // The date of the n-th business day after a date.
-#[tactic(auto, using(crate::proofs::Laws::Answers::day_lt, crate::proofs::Laws::Periods::business_days_after_day, crate::proofs::Laws::Periods::business_days_after_none))]
+#[tactic(auto, using(crate::proofs::Laws::Rules::of_business_days_after))]
 pub fn business_days_after(x: u64, n: BusinessDays) -> Option<u64>
     ensures { result ≡ business_days_after n x }
 {
@@ -50,7 +51,7 @@ pub fn business_days_after(x: u64, n: BusinessDays) -> Option<u64>
 }
 
 // The day d of the month that a count t of months leads to, or that month's last day.
-#[tactic(auto, using(crate::proofs::Laws::Periods::day_of_month_count_day, crate::proofs::Laws::Periods::day_of_month_count_last))]
+#[tactic(auto, using(crate::proofs::Laws::Rules::of_day_of_month))]
 fn day_of_month(t: u64, d: u64) -> u64
     requires { (24000 ≤ t) × (t < 26400) × (d ≤ 31) }
     ensures { result ≡ day_of_month_count t d }
@@ -63,6 +64,7 @@ fn day_of_month(t: u64, d: u64) -> u64
 }
 
 // The date n months after a date.
+#[tactic(auto, using(crate::proofs::Laws::Rules::of_months_after))]
 pub fn months_after(x: u64, n: Months) -> Option<u64>
     ensures { result ≡ months_after n x }
 {
@@ -77,7 +79,7 @@ pub fn months_after(x: u64, n: Months) -> Option<u64>
 }
 
 // The end of a period that starts on the date x: months first, then calendar days, then business days.
-#[tactic(auto, using(crate::proofs::Laws::DayNumber::day_number_lt, crate::proofs::Laws::MonthCounts::months_after_is_date, crate::proofs::Laws::Periods::period_end_no_months, crate::proofs::Laws::Periods::period_end_day, crate::proofs::Laws::Periods::period_end_beyond))]
+#[tactic(auto, using(crate::proofs::Laws::Rules::of_period_end))]
 pub fn period_end(x: u64, p: Period) -> Option<u64>
     ensures { result ≡ period_end p x }
 {

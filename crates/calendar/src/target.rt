@@ -8,6 +8,7 @@ use crate::{easter, gregorian};
 
 // Whether a day n from Monday to Friday, the day r from 0 of the year 2000 + k, is a business day. The table of
 // Easter is read only for a day from two before 22 March to the one after 25 April.
+#[tactic(auto, using(crate::proofs::Laws::Rules::of_open_in))]
 fn open_in(k: u64, r: u64, n: u64) -> bool
     requires { (n < calendar_days) × (weekday n < 5) × (k ≡ year_at n) × (r ≡ n - year_start (year_at n)) }
     ensures { result ≡ is_open n }
@@ -31,7 +32,7 @@ pub fn is_business_day(x: u64) -> bool
 }
 
 // Whether n is the number of a business day.
-#[tactic(auto, using(crate::proofs::Laws::Target::open_beyond, crate::proofs::Laws::Open::weekend_shut))]
+#[tactic(auto, using(crate::proofs::Laws::Rules::of_is_open))]
 pub fn is_open(n: u64) -> bool
     ensures { result ≡ is_open n }
 {
@@ -67,7 +68,7 @@ pub fn date_of_day(d: Option<u64>) -> Option<u64>
 }
 
 // The first business day on or after a date.
-#[tactic(auto, using(crate::proofs::Laws::BusinessDates::first_business_day_day, crate::proofs::Laws::BusinessDates::first_business_day_none))]
+#[tactic(auto, using(crate::proofs::Laws::Rules::of_first_business_day))]
 pub fn first_business_day(x: u64) -> Option<u64>
     ensures { result ≡ first_business_day x }
 {
@@ -75,7 +76,7 @@ pub fn first_business_day(x: u64) -> Option<u64>
 }
 
 // The last business day before a date.
-#[tactic(auto, using(crate::proofs::Laws::BusinessDates::last_business_day_day, crate::proofs::Laws::BusinessDates::last_business_day_none))]
+#[tactic(auto, using(crate::proofs::Laws::Rules::of_last_business_day_before))]
 pub fn last_business_day_before(x: u64) -> Option<u64>
     ensures { result ≡ last_business_day_before x }
 {

@@ -19,6 +19,7 @@ const OPEN_WITHIN: u64 = 5;
 const LAPSE_MONTHS: u64 = 36;
 
 // The first business day on or after the requested date, 0 if there is none.
+#[tactic(auto, unfolding(model::specs::Deadlines::kept_due))]
 pub fn kept_due(requested: u64) -> u64
     ensures { result ≡ kept_due requested }
 {
@@ -26,6 +27,7 @@ pub fn kept_due(requested: u64) -> u64
 }
 
 // The first business day on or after a day.
+#[tactic(auto, using(calendar::proofs::Laws::Answers::in_calendar_is, calendar::proofs::Laws::BusinessDays::first_open_lt))]
 fn open_from(day: u64) -> u64
     requires { day < calendar_days }
     ensures { result ≡ first_open day }
@@ -35,6 +37,7 @@ fn open_from(day: u64) -> u64
 
 // Whether a business day on or after the day lies before the due day. Then the day is not after the last business day
 // before the due day.
+#[tactic(auto, using(calendar::proofs::Laws::BusinessDays::first_open_from, calendar::proofs::Laws::BusinessDays::first_open_near))]
 fn is_early(day: u64, due: u64) -> bool
     requires { day < calendar_days }
     ensures { result ≡ ltb (first_open day) due }
@@ -49,6 +52,7 @@ fn is_early(day: u64, due: u64) -> bool
 }
 
 // Refusal 13, by the dates.
+#[tactic(auto, unfolding(model::specs::Deadlines::timely))]
 fn is_timely_by_dates(date: u64, requested: u64) -> bool
     ensures { result ≡ timely date requested }
 {
@@ -69,6 +73,7 @@ fn is_timely_by_days(day: u64, asked: u64) -> bool
 
 // Refusal 13: whether a collect of the date comes in time for the requested date. By their days, but for the first of the calendar and
 // what is no date.
+#[tactic(auto, using(calendar::proofs::Laws::Answers::day_lt, crate::proofs::Laws::Collects::timely_days))]
 pub fn is_timely(date: u64, requested: u64) -> bool
     ensures { result ≡ timely date requested }
 {
@@ -79,6 +84,7 @@ pub fn is_timely(date: u64, requested: u64) -> bool
 }
 
 // Refusal 14: whether a mandate is lapsed for a collect of this kept due.
+#[tactic(auto, unfolding(model::specs::Deadlines::lapse_end))]
 pub fn is_lapsed(due: u64, presented: u64, signed: u64) -> bool
     ensures { result ≡ lapsed_for due presented signed }
 {

@@ -29,6 +29,7 @@ fn period_of(way: Way) -> Period
 }
 
 // The last day, from the settled day.
+#[tactic(auto, unfolding(model::specs::Deadlines::last_day))]
 fn last_day(way: Way, settled: u64) -> Option<u64>
     ensures { result ≡ last_day way settled }
 {

@@ -1,14 +1,13 @@
--- Laws of specs/Gregorian. To cite: `leap_day_in`, `no_year`, `Valid` with `date_valid` and `valid_date` (the tests of a date, by
+-- Laws of specs/Gregorian. To cite: `leap_day_in`, `Valid` with `date_valid` and `valid_date` (the tests of a date, by
 -- name), `InRange` with `range_facts`. Assumes nothing.
 use mathlib.Core.Path.{◌≡◌}
 use mathlib.Core.Bool.{Bool, true, false, cond, not, ◌&&◌, ◌||◌}
-use mathlib.Core.Logic.{⊎_elim}
 use Prim.Native.Nat.{ℕ, ◌+◌, ◌-◌, ◌%◌, ◌≤◌, ◌<◌}
 use native.Mathlib.Omega.{arith}
-use lib.Dec.{leb, ltb, eqb, eqb→eq, lit≤}
-use borrow.Author.Tests.{leb-true, le-leb, ltb-true}
+use lib.Dec.{leb, eqb, eqb→eq, lit≤}
+use borrow.Author.Tests.{leb-true, le-leb}
 use Rattle.common.proofs.Every.{below}
-use Rattle.common.proofs.Tests.{and_halves, or_cases, false_unless}
+use Rattle.common.proofs.Tests.{and_halves}
 use Rattle.calendar.specs.Gregorian.{year, month, day_of_month, date_of_parts, leap, leap_day, month_length, is_date, in_range, first_year, last_year, first_date, last_date}
 
 -- ---- leap_day, month_length
@@ -109,15 +108,6 @@ valid_is x v =
       le-leb _ _ v.first,
       le-leb _ _ v.last,
     )
-
--- the years before and after the calendar have none
-pub no_year : (x : ℕ) → ltb (year x) first_year || ltb last_year (year x) ≡ true → is_date x ≡ false
-no_year x o =
-    false_unless (is_date x) λ e.
-    let v = date_valid x e in
-    ⊎_elim (λ (p : ltb (year x) first_year ≡ true). omega (arith, ltb-true (year x) first_year p))
-    (λ (p : ltb last_year (year x) ≡ true). omega (arith, ltb-true last_year (year x) p))
-    (or_cases (ltb (year x) first_year) o)
 
 pub valid_day_le : {y m d : ℕ} → Valid y m d → d ≤ 31
 valid_day_le {y} {m} {d} v = omega (arith, month_length_le (leap_day y) m (leap_day_le y))

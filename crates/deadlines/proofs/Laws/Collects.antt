@@ -1,21 +1,17 @@
 -- Laws of the terms of a collect: the kept due, the time by the days. To cite: `timely_days`. Assumes nothing.
-use Rattle.std.proofs.Common.{None, Some}
+use Rattle.std.proofs.Common.{Some}
 use mathlib.Core.Path.{◌≡◌}
 use mathlib.Core.Bool.{not, ◌&&◌}
-use mathlib.Core.Logic.{◌≢◌}
-use Prim.Native.Nat.{ℕ, ◌+◌, ◌≤◌, ◌<◌}
+use Prim.Native.Nat.{ℕ, ◌+◌, ◌≤◌}
 use native.Mathlib.Omega.{arith}
 use lib.Dec.{ltb}
-use borrow.Author.Tests.{eq-eqb, ne_eqb}
-use Rattle.calendar.specs.DayNumber.{calendar_days, day_number, day_of}
+use Rattle.calendar.specs.DayNumber.{day_number, day_of}
 use Rattle.calendar.specs.Target.{first_open, first_business_day}
-use Rattle.calendar.specs.Periods.{months_after}
 use Rattle.calendar.proofs.Laws.Answers.{day_of_day_lem}
-use Rattle.calendar.proofs.Laws.DayNumber.{day_number_lt}
 use Rattle.calendar.proofs.Laws.BusinessDays.{first_open_from}
 use Rattle.calendar.proofs.Laws.BusinessDates.{kept_date, kept_date_number, kept_date_date, first_business_day_is}
 use Rattle.calendar.proofs.Laws.Periods.{is_after_days_after, not_after_last}
-use Rattle.model.specs.Deadlines.{kept_due, timely, lapse_end}
+use Rattle.model.specs.Deadlines.{kept_due, timely}
 
 -- ---- kept due and time
 

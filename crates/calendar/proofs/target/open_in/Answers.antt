@@ -1,6 +1,4 @@
 use Rattle.calendar.proofs.Laws.Open.{fixed, leap_in, day_in, sunday_in, near_sunday, fixed_shut, far_open, near_open}
-use Rattle.calendar.proofs.Laws.Gregorian.{leap_day_le}
-use Rattle.calendar.proofs.Laws.Years.{year_at_of}
 use Rattle.calendar.specs.Gregorian.{leap_day, first_year}
 use Rattle.calendar.specs.DayNumber.{year_start, day_number, year_at}
 use Rattle.calendar.specs.Easter.{easter_sunday}
@@ -20,21 +18,6 @@ fixed_in n k r l b e f g h = rw (f, g, e) at h
 sunday_is : (n k s : ℕ) → k ≡ year_at n → year_start k + s ≡ day_number (easter_sunday (first_year + k)) → s ≡ sunday_in n
 sunday_is n k s e f = let g = rw e at f in omega (arith, g)
 
-pub overflow_add-k : goal.overflow_add-k
-overflow_add-k c = omega (arith, c.requires.2, year_at_of c.args.n c.requires.0)
-
-pub leap_day_in-l-requires : goal.leap_day_in-l-requires
-leap_day_in-l-requires c = (omega arith, omega (arith, c.requires.2, year_at_of c.args.n c.requires.0))
-
-pub overflow_add-l : goal.overflow_add-l
-overflow_add-l c = omega (arith, c.leap_day_in-l.ensures, leap_day_le (first_year + c.args.k))
-
-pub overflow_add-l-2 : goal.overflow_add-l-2
-overflow_add-l-2 c = omega (arith, c.leap_day_in-l.ensures, leap_day_le (first_year + c.args.k))
-
-pub overflow_add-l-3 : goal.overflow_add-l-3
-overflow_add-l-3 c = omega (arith, c.leap_day_in-l.ensures, leap_day_le (first_year + c.args.k))
-
 pub returns-then-r-l : goal.returns-then-r-l
 returns-then-r-l c =
     sym (fixed_shut _ c.requires.0 (fixed_in _ _ _ _ _ c.requires.2 c.requires.3 c.leap_day_in-l.ensures c.if-r-l.true))
@@ -46,10 +29,6 @@ returns-then-r c =
     (far_open _ c.requires.0 c.requires.1
     (fixed_in _ _ _ _ _ c.requires.2 c.requires.3 c.leap_day_in-l.ensures c.if-r-l.false)
     far)
-
-pub easter_place-sunday-requires : goal.easter_place-sunday-requires
-easter_place-sunday-requires c =
-    (omega (arith, c.requires.2, year_at_of c.args.n c.requires.0), c.leap_day_in-l.ensures)
 
 pub overflow_add-result-2 : goal.overflow_add-result-2
 overflow_add-result-2 c =
