@@ -12,28 +12,23 @@ use report::layout::LAST_NUMBER;
 fn lines_left(lines: u64) -> u64
     ensures { result ≡ last_number - lines }
 {
-    if lines < LAST_NUMBER {
-        return LAST_NUMBER - lines;
-    }
-    0
+    LAST_NUMBER.saturating_sub(lines)
 }
 
 // 1 for a byte that ends a line, else 0.
 fn ended_by(b: u8) -> u64
     ensures { result ≡ cond (eqb b line_end) 1 0 }
 {
-    if b == LINE_END { 1 } else { 0 }
+    u64::from(b == LINE_END)
 }
 
 // The lines of a text that have ended.
 fn line_count(text: &[u8]) -> u64
     ensures { result ≡ length (lines_from [] text.now) }
 {
-    let mut n: u64 = 0;
-    let mut i: usize = 0;
-    while i < text.len() {
-        n += ended_by(text[i]);
-        i += 1;
+    let mut n = 0;
+    for b in text {
+        n += ended_by(*b);
     }
     n
 }
@@ -46,11 +41,7 @@ pub fn lines_past(lines: u64, text: &[u8]) -> u64
     if text.len() as u64 <= left {
         return 0;
     }
-    let n = line_count(text);
-    if n <= left {
-        return 0;
-    }
-    n - left
+    line_count(text).saturating_sub(left)
 }
 
 // Whether there is input past the last line that is answered, by the lines past it, those answered, and the bytes of the

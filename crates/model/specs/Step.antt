@@ -90,8 +90,7 @@ query l kind number =
 
 -- the paper's number of its answer, and the value: the figure in cents, 0 where there is none
 abbrev pub query_number : Result ℤ Refusal → ℕ
-query_number (Ok z) = 0
-query_number (Err r) = number_of r
+query_number r = answer_number r
 
 abbrev pub answered : Result ℤ Refusal → ℤ
 answered (Ok z) = z

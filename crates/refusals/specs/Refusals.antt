@@ -24,6 +24,6 @@ number_of BeforeDue = 16
 number_of AfterLastDay = 17
 
 -- the number of an answer: 0 where nothing is refused
-abbrev pub answer_number : Result Unit Refusal → ℕ
-answer_number (Ok tt) = 0
+abbrev pub answer_number : {A : Type 0} → Result A Refusal → ℕ
+answer_number (Ok x) = 0
 answer_number (Err r) = number_of r

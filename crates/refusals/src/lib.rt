@@ -60,8 +60,11 @@ pub fn number_of(r: Refusal) -> u64
 }
 
 // The paper's number of an answer: 0 where nothing is refused.
-pub fn answer_number(answer: Result<(), Refusal>) -> u64
-    ensures { result ≡ answer_number answer }
+pub fn answer_number<T>(answer: &Result<T, Refusal>) -> u64
+    ensures { result ≡ answer_number answer.now }
 {
-    answer.err().map_or(0, u64::from)
+    match answer {
+        Ok(_) => 0,
+        Err(r) => u64::from(*r),
+    }
 }

@@ -1,19 +1,20 @@
 -- A text of events: the call for a piece of the program's input, against the run of crates/run/specs/Run.
 -- Assumes nothing.
-use Rattle.std.specs.Prelude.{◌≡◌, Bool, true, cond, ◌&&◌, List, [], ℕ, ◌+◌, ◌*◌, ◌/◌, ◌≤◌, leb, length, take, drop, Ok, Err}
+use Rattle.std.specs.Prelude.{◌≡◌, Bool, true, cond, ◌&&◌, List, [], ℕ, ◌+◌, ◌*◌, ◌/◌, ◌≤◌, leb, length, take, drop, Option, Some, None, Result, Ok, Err}
+use denote.Ref.{Bor}
+use Rattle.refusals.specs.declared.Refusal.{Refusal}
 use Rattle.refusals.specs.declared.Refusal.TheVariants.{UnfitMemory}
 use Rattle.events.specs.declared.Event.{Event}
 use Rattle.events.specs.Limits.{checked}
 use Rattle.digits.specs.Field.{pasted}
 use Rattle.lines.specs.Line.{read_line}
-use Rattle.tables.specs.declared.Header.{Header}
 use Rattle.tables.specs.Ledger.{Ledger}
 use Rattle.model.specs.Step.{answer_number}
 use Rattle.index.specs.Index.{Indexed}
 use Rattle.model.specs.Bounds.{Safe}
 use Rattle.report.specs.Layout.{answer_length}
-use Rattle.run.specs.Run.{Run, fit_answer, fit_number, run_at, clipped, answer_to, after_line, ended, line_output, take_text, text_output}
-use Rattle.checking.specs.declared.Outcome.{Outcome}
+use Rattle.run.specs.Run.{Run, fit_number, run_at, clipped, answer_to, after_line, ended, line_output, take_text, text_output}
+use Rattle.text.specs.declared.text.Indexes.{Indexes}
 use Rattle.text.specs.declared.text.Progress.{Progress}
 use Rattle.text.specs.declared.text.Lines.{Lines}
 use Rattle.text.specs.declared.text.Piece.{Piece}
@@ -21,27 +22,29 @@ use Rattle.text.specs.declared.text.Piece.{Piece}
 -- ---- a line
 
 -- what was tested and made once: the memory is safe, and each table has its index
-pub record Prepared (mandateIndex collectionIndex : List ℕ) (l : Ledger) : Type 0 where
+pub record Prepared (made : Indexes) (l : Ledger) : Type 0 where
   pub safe : Safe l
-  pub mandates : Indexed mandateIndex l.mandates l.mandates_used
-  pub collections : Indexed collectionIndex l.collections l.collections_used
+  pub mandates : Indexed made.mandates l.mandates l.mandates_used
+  pub collections : Indexed made.collections l.collections l.collections_used
 
-abbrev pub WhenPrepared : Bool → List ℕ → List ℕ → Ledger → Type 0
-WhenPrepared prepared mandateIndex collectionIndex l = prepared ≡ true → Prepared mandateIndex collectionIndex l
+-- nothing is known of memory that was not found safe
+abbrev pub WhenKnown : Option (Bor Indexes) → Ledger → Type 0
+WhenKnown None l = Unit
+WhenKnown (Some made) l = Prepared made.now l
 
 -- an event that was read, given to the ledger l
-pub record Sound (prepared : Bool) (mandateIndex collectionIndex : List ℕ) (l : Ledger) (e : Event) : Type 0 where
-  pub tested : WhenPrepared prepared mandateIndex collectionIndex l
+pub record Sound (known : Option (Bor Indexes)) (l : Ledger) (e : Event) : Type 0 where
+  pub tested : WhenKnown known l
   pub is_within : checked e ≡ (Ok tt)
 
 -- the line given to the ledger l: the answer, and the ledger l' after it
-pub record LineTaken (l : Ledger) (line : List ℕ) (r : Outcome) (l' : Ledger) : Type 0 where
-  pub answer_is : r.answer ≡ answer_to l (read_line line)
+pub record LineTaken (l : Ledger) (line : List ℕ) (r : Result Unit Refusal) (l' : Ledger) : Type 0 where
+  pub answer_is : r ≡ answer_to l (read_line line)
   pub after_is : l' ≡ after_line l (read_line line)
 
 -- the memory was tested, and the buffer has room for an answer
-pub record AnswerRoom (prepared : Bool) (mandateIndex collectionIndex : List ℕ) (l : Ledger) (written : ℕ) (out : List ℕ) : Type 0 where
-  pub tested : WhenPrepared prepared mandateIndex collectionIndex l
+pub record AnswerRoom (known : Option (Bor Indexes)) (l : Ledger) (written : ℕ) (out : List ℕ) : Type 0 where
+  pub tested : WhenKnown known l
   pub room : written + answer_length ≤ length out
 
 -- the line answered behind what was written before
@@ -52,8 +55,8 @@ pub record LineAnswered (l : Ledger) (p : Progress) (line out : List ℕ) (r : P
 
 -- ---- the lines of a text
 
-pub record TextRoom (prepared : Bool) (mandateIndex collectionIndex : List ℕ) (l : Ledger) (text out : List ℕ) : Type 0 where
-  pub tested : WhenPrepared prepared mandateIndex collectionIndex l
+pub record TextRoom (known : Option (Bor Indexes)) (l : Ledger) (text out : List ℕ) : Type 0 where
+  pub tested : WhenKnown known l
   pub room : answer_length * length text ≤ length out
 
 -- the lines that have ended are answered, and the rest begins at a place
@@ -65,17 +68,15 @@ pub record LinesAnswered (s : Run) (text out : List ℕ) (r : Lines) (l' : Ledge
 
 -- ---- the call
 
-abbrev pub unfit_piece : Header → ℕ → ℕ → Piece
-unfit_piece h lines filled = record { answer = Err UnfitMemory; header = h; lines = lines; partial = filled; written = 0 }
+-- what a run that came to s leaves, and has written in n bytes
+abbrev pub piece_of : Run → ℕ → Piece
+piece_of s n = record { lines = s.lines; partial = length s.partial; written = n }
 
 -- where lent text and buffer fit, the run comes to s and writes the bytes t to the buffer; else nothing changes
-pub record Advanced (fits : Bool) (l : Ledger) (lines filled : ℕ) (out : List ℕ) (s : Run) (t : List ℕ) (r : Piece) (l' : Ledger) (out' : List ℕ) : Type 0 where
-  pub answer_is : r.answer ≡ fit_answer fits
-  pub number_is : answer_number r.answer ≡ fit_number fits
+pub record Advanced (fits : Bool) (l : Ledger) (out : List ℕ) (s : Run) (t : List ℕ) (r : Result Piece Refusal) (l' : Ledger) (out' : List ℕ) : Type 0 where
+  pub answer_is : r ≡ cond fits (Ok (piece_of s (length t))) (Err UnfitMemory)
+  pub number_is : answer_number r ≡ fit_number fits
   pub book_is : l' ≡ cond fits s.book l
-  pub lines_are : r.lines ≡ cond fits s.lines lines
-  pub partial_is : r.partial ≡ cond fits (length s.partial) filled
-  pub written_is : r.written ≡ cond fits (length t) 0
   pub out_is : out' ≡ cond fits (pasted 0 t out) out
 
 -- a piece of input: the bytes of the partial line and those that were read, filled in all; each may end a line
@@ -92,6 +93,6 @@ piece_output l lines filled text = text_output (run_at l lines []) (take filled 
 abbrev pub text_after : Bool → Run → List ℕ → List ℕ
 text_after fits s text = cond fits (pasted 0 s.partial text) text
 
-pub record PieceTaken (l : Ledger) (lines filled : ℕ) (text out : List ℕ) (r : Piece) (l' : Ledger) (text' out' : List ℕ) : Type 0 where
-  pub advanced : Advanced (piece_fits filled text out) l lines filled out (piece_run l lines filled text) (piece_output l lines filled text) r l' out'
+pub record PieceTaken (l : Ledger) (lines filled : ℕ) (text out : List ℕ) (r : Result Piece Refusal) (l' : Ledger) (text' out' : List ℕ) : Type 0 where
+  pub advanced : Advanced (piece_fits filled text out) l out (piece_run l lines filled text) (piece_output l lines filled text) r l' out'
   pub text_is : text' ≡ text_after (piece_fits filled text out) (piece_run l lines filled text) text

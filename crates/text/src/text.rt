@@ -1,36 +1,39 @@
 // A text of events: the lines of the program's input, answered one after the other: specs/Text.
-ghost use Rattle.std.specs.Prelude.{◌≡◌, [], true, ◌&&◌, ℕ, ◌/◌, ◌≤◌, min, leb, length, take, drop};
+ghost use Rattle.std.specs.Prelude.{◌≡◌, [], ◌&&◌, ◌/◌, ◌≤◌, min, leb, length, take, drop};
 ghost use Rattle.digits.specs.Field.{pasted};
-ghost use Rattle.tables.specs.Ledger.{ledger};
+ghost use Rattle.tables.specs.Ledger.{ledger_in, SameLoans};
 ghost use Rattle.tables.specs.Lookup.{MayStart};
-ghost use Rattle.index.specs.Index.{Indexed};
+ghost use Rattle.index.specs.Index.{index_of};
 ghost use Rattle.fitness.specs.Fitness.{fit};
-ghost use Rattle.model.specs.Bounds.{Safe};
-ghost use Rattle.model.specs.Step.{answer_number};
 ghost use Rattle.report.specs.Layout.{answer_length};
 ghost use Rattle.run.specs.Run.{run_at, clipped_length, clipped};
 ghost use Rattle.book.specs.Events.{Taken};
-ghost use Rattle.text.specs.Text.{Sound, WhenPrepared, LineTaken, AnswerRoom, LineAnswered, TextRoom, LinesAnswered, unfit_piece, PieceTaken};
+ghost use Rattle.text.specs.Text.{WhenKnown, Sound, LineTaken, AnswerRoom, LineAnswered, TextRoom, LinesAnswered, PieceTaken};
 
 use book::acting::{act, find_collection, find_mandate};
-use checking::Outcome;
 use events::Event;
 use fitness::fitness::is_fit;
 use index::{INDEX, first_row, index_rows};
-use lines::line::{COLUMNS, FIELDS, event_in, read_cells};
-use refusals::{Refusal, number_of};
+use lines::line::{COLUMNS, read};
+use refusals::{Refusal, answer_number};
 use report::cut::line_end;
 use report::layout::{ANSWER, LAST_NUMBER, answer_line};
 use safety::is_safe;
-use tables::Header;
+use tables::BookMut;
 
 // A partial line is clipped to one byte more than a sound line has.
 const CLIPPED: usize = COLUMNS + 2;
 
-// The header, the lines answered and the bytes written so far.
+// The index of each table, made once for a piece on memory that is safe.
+#[derive(Clone, Copy)]
+struct Indexes {
+    mandates: [u16; INDEX],
+    collections: [u16; INDEX],
+}
+
+// The lines answered and the bytes written so far.
 #[derive(Clone, Copy)]
 struct Progress {
-    header: Header,
     lines: u64,
     written: usize,
 }
@@ -38,267 +41,136 @@ struct Progress {
 // The same, and where the first line begins that has not ended.
 #[derive(Clone, Copy)]
 struct Lines {
-    header: Header,
     lines: u64,
     written: usize,
     at: usize,
 }
 
-// What a call leaves: the header, the lines answered so far, the bytes of the partial line, the bytes written, and
-// the answer to the call.
-#[derive(Clone, Copy)]
+// What a call leaves: the lines answered so far, the bytes of the partial line, and the bytes written.
+#[derive(Clone, Copy, Debug, PartialEq, Eq)]
 pub struct Piece {
-    pub header: Header,
     pub lines: u64,
     pub partial: usize,
     pub written: usize,
-    pub answer: Result<(), Refusal>,
 }
 
-// The number of an answer: 0 where the event is accepted.
-pub fn answer_number(answer: Result<(), Refusal>) -> u64
-    ensures { result ≡ answer_number answer }
+// The indexes of a book.
+fn index_tables(book: &BookMut) -> Indexes
+    ensures mandates { result.mandates ≡ index_of book.now.mandates.now book.now.header.mandates }
+    ensures collections { result.collections ≡ index_of book.now.collections.now book.now.header.collections }
 {
-    match answer {
-        Ok(()) => 0,
-        Err(r) => number_of(r),
+    Indexes {
+        mandates: index_rows(book.mandates, book.header.mandates),
+        collections: index_rows(book.collections, book.header.collections),
     }
 }
 
-// A row from which a number may be looked for: by the index where there is one, else the first row.
-fn start(indexed: bool, index: &[u16; INDEX], cells: &[u64], number: u64) -> usize
-    ensures { (used : ℕ) → (indexed ≡ true → Indexed index.now cells.now used) → MayStart cells.now used number result }
+// A row from which the mandate that an event names may be looked for: by the index where there is one, else the first row.
+fn mandate_since(known: Option<&Indexes>, book: &BookMut, e: Event) -> usize
+    requires { WhenKnown known (ledger_in book.now) }
+    ensures { MayStart book.now.mandates.now book.now.header.mandates e.mandate result }
 {
-    if indexed {
-        return first_row(index, cells, number);
+    match known {
+        Some(made) if e.kind <= 5 => first_row(&made.mandates, book.mandates, e.mandate),
+        _ => 0,
     }
-    0
+}
+
+// The same for the collection that it names.
+fn collection_since(known: Option<&Indexes>, book: &BookMut, e: Event) -> usize
+    requires { WhenKnown known (ledger_in book.now) }
+    ensures { MayStart book.now.collections.now book.now.header.collections e.a result }
+{
+    match known {
+        Some(made) if 5 <= e.kind => first_row(&made.collections, book.collections, e.a),
+        _ => 0,
+    }
 }
 
 // Whether the memory is fit; memory that is known to be safe is not tested again.
-fn may_act(
-    prepared: bool,
-    header: Header,
-    mandates: &[u64],
-    collections: &[u64],
-    creditors: &[u64],
-    creditor_positions: &[i64],
-    debtor_positions: &[i64],
-    bank_positions: &[i64],
-) -> bool
-    requires { prepared ≡ true → Safe (ledger header mandates.now collections.now creditors.now creditor_positions.now debtor_positions.now bank_positions.now) }
-    ensures { result ≡ fit (ledger header mandates.now collections.now creditors.now creditor_positions.now debtor_positions.now bank_positions.now) }
+fn may_act(known: Option<&Indexes>, book: &BookMut) -> bool
+    requires { WhenKnown known (ledger_in book.now) }
+    ensures { result ≡ fit (ledger_in book.now) }
 {
-    if prepared {
+    if known.is_some() {
         return true;
     }
-    is_fit(
-        header,
-        mandates,
-        collections,
-        creditors,
-        creditor_positions,
-        debtor_positions,
-        bank_positions,
-    )
+    is_fit(&book.view())
 }
 
 // An event within its limits. What it names is looked for from where the indexes say.
-fn take_sound(
-    prepared: bool,
-    header: Header,
-    e: Event,
-    mandate_index: &[u16; INDEX],
-    collection_index: &[u16; INDEX],
-    mandates: &mut [u64],
-    collections: &mut [u64],
-    creditors: &mut [u64],
-    creditor_positions: &mut [i64],
-    debtor_positions: &mut [i64],
-    bank_positions: &mut [i64],
-) -> Outcome
-    requires { Sound prepared mandate_index.now collection_index.now (ledger header mandates.old collections.old creditors.old creditor_positions.old debtor_positions.old bank_positions.old) e }
-    ensures { Taken (ledger header mandates.old collections.old creditors.old creditor_positions.old debtor_positions.old bank_positions.old) e result
-        (ledger result.header mandates.new collections.new creditors.new creditor_positions.new debtor_positions.new bank_positions.new) }
+fn take_sound(known: Option<&Indexes>, book: &mut BookMut, e: Event) -> Result<(), Refusal>
+    requires { Sound known (ledger_in book.old) e }
+    ensures loans { SameLoans book.old book.new }
+    ensures taken { Taken (ledger_in book.old) e result (ledger_in book.new) }
 {
-    if !may_act(
-        prepared,
-        header,
-        mandates,
-        collections,
-        creditors,
-        creditor_positions,
-        debtor_positions,
-        bank_positions,
-    ) {
-        return Outcome {
-            answer: Err(Refusal::UnfitMemory),
-            header: header,
-        };
+    if !may_act(known, book) {
+        return Err(Refusal::UnfitMemory);
     }
-    let mandate_since = start(prepared & (e.kind <= 5), mandate_index, mandates, e.mandate);
-    let collection_since = start(prepared & (5 <= e.kind), collection_index, collections, e.a);
-    act(
-        header,
-        e,
-        find_mandate(e, mandates, header.mandates, mandate_since),
-        find_collection(e, collections, header.collections, collection_since),
-        mandates,
-        collections,
-        creditors,
-        creditor_positions,
-        debtor_positions,
-        bank_positions,
-    )
+    let mandate_since = mandate_since(known, book, e);
+    let collection_since = collection_since(known, book, e);
+    let mandate = find_mandate(book, e, mandate_since);
+    let collection = find_collection(book, e, collection_since);
+    act(book, e, mandate, collection)
 }
 
 // A line: what the reader refuses, or what the ledger answers.
-fn take_line(
-    prepared: bool,
-    header: Header,
-    line: &[u8],
-    mandate_index: &[u16; INDEX],
-    collection_index: &[u16; INDEX],
-    mandates: &mut [u64],
-    collections: &mut [u64],
-    creditors: &mut [u64],
-    creditor_positions: &mut [i64],
-    debtor_positions: &mut [i64],
-    bank_positions: &mut [i64],
-) -> Outcome
-    requires { WhenPrepared prepared mandate_index.now collection_index.now (ledger header mandates.old collections.old creditors.old creditor_positions.old debtor_positions.old bank_positions.old) }
-    ensures { LineTaken (ledger header mandates.old collections.old creditors.old creditor_positions.old debtor_positions.old bank_positions.old) line.now result
-        (ledger result.header mandates.new collections.new creditors.new creditor_positions.new debtor_positions.new bank_positions.new) }
+fn take_line(known: Option<&Indexes>, book: &mut BookMut, line: &[u8]) -> Result<(), Refusal>
+    requires { WhenKnown known (ledger_in book.old) }
+    ensures loans { SameLoans book.old book.new }
+    ensures taken { LineTaken (ledger_in book.old) line.now result (ledger_in book.new) }
 {
-    let mut cells = [0; FIELDS];
-    match read_cells(line, &mut cells) {
-        Err(r) => Outcome {
-            answer: Err(r),
-            header: header,
-        },
-        Ok(()) => take_sound(
-            prepared,
-            header,
-            event_in(&cells),
-            mandate_index,
-            collection_index,
-            mandates,
-            collections,
-            creditors,
-            creditor_positions,
-            debtor_positions,
-            bank_positions,
-        ),
-    }
+    let e = read(line)?;
+    take_sound(known, book, e)
 }
 
 // Answers a line that has ended, unless 999,999 were answered before.
 fn end_line(
-    prepared: bool,
+    known: Option<&Indexes>,
+    book: &mut BookMut,
     p: Progress,
     line: &[u8],
     out: &mut [u8],
-    mandate_index: &[u16; INDEX],
-    collection_index: &[u16; INDEX],
-    mandates: &mut [u64],
-    collections: &mut [u64],
-    creditors: &mut [u64],
-    creditor_positions: &mut [i64],
-    debtor_positions: &mut [i64],
-    bank_positions: &mut [i64],
 ) -> Progress
-    requires { AnswerRoom prepared mandate_index.now collection_index.now (ledger p.header mandates.old collections.old creditors.old creditor_positions.old debtor_positions.old bank_positions.old) p.written out.old }
-    ensures { LineAnswered (ledger p.header mandates.old collections.old creditors.old creditor_positions.old debtor_positions.old bank_positions.old) p line.now out.old result
-        (ledger result.header mandates.new collections.new creditors.new creditor_positions.new debtor_positions.new bank_positions.new) out.new }
+    requires { AnswerRoom known (ledger_in book.old) p.written out.old }
+    ensures loans { SameLoans book.old book.new }
+    ensures answered { LineAnswered (ledger_in book.old) p line.now out.old result (ledger_in book.new) out.new }
 {
     if p.lines >= LAST_NUMBER {
         return p;
     }
-    let header = p.header;
-    let written = p.written;
     let number = p.lines + 1;
-    let done = take_line(
-        prepared,
-        header,
-        line,
-        mandate_index,
-        collection_index,
-        mandates,
-        collections,
-        creditors,
-        creditor_positions,
-        debtor_positions,
-        bank_positions,
-    );
-    let answer = done.answer;
-    let after = done.header;
-    answer_line(out, written, number, answer_number(answer));
+    let answer = take_line(known, book, line);
+    let _ = answer_line(out, p.written, number, answer_number(&answer));
     Progress {
-        header: after,
         lines: number,
-        written: written + ANSWER,
+        written: p.written + ANSWER,
     }
 }
 
 // Answers the lines of a text that have ended.
 fn take_lines(
-    prepared: bool,
-    header: Header,
+    known: Option<&Indexes>,
+    book: &mut BookMut,
     lines: u64,
     text: &[u8],
     out: &mut [u8],
-    mandate_index: &[u16; INDEX],
-    collection_index: &[u16; INDEX],
-    mandates: &mut [u64],
-    collections: &mut [u64],
-    creditors: &mut [u64],
-    creditor_positions: &mut [i64],
-    debtor_positions: &mut [i64],
-    bank_positions: &mut [i64],
 ) -> Lines
-    requires { TextRoom prepared mandate_index.now collection_index.now (ledger header mandates.old collections.old creditors.old creditor_positions.old debtor_positions.old bank_positions.old) text.now out.old }
-    ensures { LinesAnswered (run_at (ledger header mandates.old collections.old creditors.old creditor_positions.old debtor_positions.old bank_positions.old) lines []) text.now out.old result
-        (ledger result.header mandates.new collections.new creditors.new creditor_positions.new debtor_positions.new bank_positions.new) out.new }
+    requires { TextRoom known (ledger_in book.old) text.now out.old }
+    ensures loans { SameLoans book.old book.new }
+    ensures answered { LinesAnswered (run_at (ledger_in book.old) lines []) text.now out.old result (ledger_in book.new) out.new }
 {
-    let mut p = Progress {
-        header: header,
-        lines: lines,
-        written: 0,
-    };
-    let mut at: usize = 0;
-    while at < text.len() {
-        let Some(k) = line_end(text, at) else {
-            let last = p.header;
-            return Lines {
-                header: last,
-                lines: p.lines,
-                written: p.written,
-                at: at,
-            };
-        };
-        let next = k + 1;
-        p = end_line(
-            prepared,
-            p,
-            &text[at..next],
-            out,
-            mandate_index,
-            collection_index,
-            mandates,
-            collections,
-            creditors,
-            creditor_positions,
-            debtor_positions,
-            bank_positions,
-        );
+    let mut p = Progress { lines, written: 0 };
+    let mut at = 0;
+    while let Some(end) = line_end(text, at) {
+        let next = end + 1;
+        p = end_line(known, book, p, &text[at..next], out);
         at = next;
     }
-    let last = p.header;
     Lines {
-        header: last,
         lines: p.lines,
         written: p.written,
-        at: at,
+        at,
     }
 }
 
@@ -306,7 +178,7 @@ fn take_lines(
 fn clip(long: usize) -> usize
     ensures { result ≡ min long clipped_length }
 {
-    if long < CLIPPED { long } else { CLIPPED }
+    long.min(CLIPPED)
 }
 
 // Puts the partial line that begins at a place, clipped, to the front of the text, and gives its length.
@@ -316,11 +188,7 @@ fn keep_partial(text: &mut [u8], at: usize, filled: usize) -> usize
     ensures text { text.new ≡ pasted 0 (clipped (drop at (take filled text.old))) text.old }
 {
     let n = clip(filled - at);
-    let mut i: usize = 0;
-    while i < n {
-        text[i] = text[at + i];
-        i += 1;
-    }
+    text.copy_within(at..at + n, 0);
     n
 }
 
@@ -331,74 +199,30 @@ fn piece_fits(filled: usize, long: usize, room: usize) -> bool
     (filled <= long) & (filled <= room / ANSWER)
 }
 
-// Refusal 2, where lent text and buffer do not fit.
-fn unfit(header: Header, lines: u64, filled: usize) -> Piece
-    ensures { result ≡ unfit_piece header lines filled }
-{
-    Piece {
-        answer: Err(Refusal::UnfitMemory),
-        header: header,
-        lines: lines,
-        partial: filled,
-        written: 0,
-    }
-}
-
 // Takes a piece of input, its first `filled` bytes: answers every line that has ended, and puts the partial one behind
-// them, clipped, to the front of the text. The memory is tested once, and each table gets an index.
+// them, clipped, to the front of the text. The memory is tested once, and each table gets an index. Refusal 2 where text and buffer
+// do not fit.
 pub fn take_text(
-    header: Header,
+    book: &mut BookMut,
     lines: u64,
     filled: usize,
     text: &mut [u8],
     out: &mut [u8],
-    mandates: &mut [u64],
-    collections: &mut [u64],
-    creditors: &mut [u64],
-    creditor_positions: &mut [i64],
-    debtor_positions: &mut [i64],
-    bank_positions: &mut [i64],
-) -> Piece
-    ensures { PieceTaken (ledger header mandates.old collections.old creditors.old creditor_positions.old debtor_positions.old bank_positions.old) lines filled text.old out.old result
-        (ledger result.header mandates.new collections.new creditors.new creditor_positions.new debtor_positions.new bank_positions.new) text.new out.new }
+) -> Result<Piece, Refusal>
+    ensures loans { SameLoans book.old book.new }
+    ensures taken { PieceTaken (ledger_in book.old) lines filled text.old out.old result (ledger_in book.new) text.new out.new }
 {
     if !piece_fits(filled, text.len(), out.len()) {
-        return unfit(header, lines, filled);
+        return Err(Refusal::UnfitMemory);
     }
-    let prepared = is_safe(
-        header,
-        mandates,
-        collections,
-        creditors,
-        creditor_positions,
-        debtor_positions,
-        bank_positions,
-    );
-    let mandate_index = index_rows(mandates, header.mandates);
-    let collection_index = index_rows(collections, header.collections);
-    let done = take_lines(
-        prepared,
-        header,
-        lines,
-        &text[..filled],
-        out,
-        &mandate_index,
-        &collection_index,
-        mandates,
-        collections,
-        creditors,
-        creditor_positions,
-        debtor_positions,
-        bank_positions,
-    );
-    let after = done.header;
-    let at = done.at;
-    let partial = keep_partial(text, at, filled);
-    Piece {
-        answer: Ok(()),
-        header: after,
+    let safe = is_safe(&book.view());
+    let indexes = index_tables(book);
+    let known = if safe { Some(&indexes) } else { None };
+    let done = take_lines(known, book, lines, &text[..filled], out);
+    let partial = keep_partial(text, done.at, filled);
+    Ok(Piece {
         lines: done.lines,
-        partial: partial,
+        partial,
         written: done.written,
-    }
+    })
 }

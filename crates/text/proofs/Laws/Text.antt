@@ -1,6 +1,7 @@
--- Laws of specs/Text, for the functions of src/text.rt in their order. To cite: `line_refused`, `line_taken`, `line_event`; `output_none`, `output_line`;
+-- Laws of specs/Text, for the functions of src/text.rt in their order. To cite: `line_refused`, `line_taken`; `output_none`, `output_line`;
 -- `AnsweredTo` with `answered_start`, `answered_line`, `answered_end`. Assumes nothing.
-use Rattle.std.proofs.Common.{Err, Ok, Result}
+use Rattle.std.specs.List.{copy_within}
+use Rattle.std.proofs.Common.{Option, Some, None, Err, Ok, Result, Bor}
 use mathlib.Core.Path.{◌≡◌, refl, sym, ap, ◌∙◌}
 use mathlib.Core.Bool.{Bool, true, false, cond}
 use mathlib.Core.Logic.{◌≢◌}
@@ -15,13 +16,12 @@ use lib.ListN.{length, take, drop, get_or, set, length-append, length-take, leng
 use lib.Seq.{length-take-le, take-suc, drop-cons, set_at, get_or-drop, get_or-append-add, get_or-take, ext_get_or}
 use Rattle.common.proofs.Tests.{and_halves}
 use Rattle.refusals.specs.declared.Refusal.{Refusal}
+use Rattle.refusals.specs.declared.Refusal.TheVariants.{UnfitMemory}
 use Rattle.refusals.proofs.Laws.Refusals.{number_of_most}
 use Rattle.events.specs.declared.Event.{Event}
 use Rattle.events.specs.Limits.{checked}
 use Rattle.digits.specs.Field.{pasted}
-use Rattle.lines.specs.Line.{event_of, line_end, read_line, checked_line, cells_by}
-use Rattle.lines.proofs.Laws.Promises.{cells_taken}
-use Rattle.tables.specs.declared.Header.{Header}
+use Rattle.lines.specs.Line.{line_end, read_line}
 use Rattle.tables.specs.Ledger.{Ledger}
 use Rattle.model.specs.Step.{answer_number}
 use Rattle.index.proofs.Laws.Following.{indexed_kept}
@@ -33,31 +33,19 @@ use Rattle.report.proofs.Laws.Cut.{FirstEnd}
 use Rattle.digits.proofs.Laws.Buffer.{pasted_next}
 use Rattle.report.proofs.Laws.Layout.{length_answer_line, answer_fits_made}
 use Rattle.run.proofs.Laws.Run.{Answering, answering_start, answering_line, rest_after, rest_output}
-use Rattle.checking.specs.declared.Outcome.{Outcome}
+use Rattle.text.specs.declared.text.Indexes.{Indexes}
 use Rattle.book.specs.Events.{Taken}
 use Rattle.text.specs.declared.text.Progress.{Progress}
 use Rattle.text.specs.declared.text.Lines.{Lines}
-use Rattle.text.specs.Text.{Prepared, WhenPrepared, LineTaken, LineAnswered, LinesAnswered, unfit_piece, piece_fits, PieceTaken}
+use Rattle.text.specs.Text.{Prepared, WhenKnown, LineTaken, LineAnswered, LinesAnswered, piece_fits, PieceTaken}
 
 -- ---- a line
 
--- the event of a line, by way of the cells that it was read into
-pub line_event : (line cells cells' : List ℕ) (a : Result Unit Refusal) (e : Event)
-    → a ≡ checked_line (read_line line)
-    → cells' ≡ cells_by (read_line line) cells
-    → a ≡ (Ok tt)
-    → e ≡ event_of cells'
-    → (read_line line ≡ Ok e) × (checked e ≡ (Ok tt))
-line_event line cells cells' a e p q w g =
-    let t = cells_taken line cells (sym p ∙ w) in
-    let i : e ≡ t.event = g ∙ ap event_of (q ∙ t.is_cells) in
-    (t.is_read ∙ ap Ok (sym i), ap checked i ∙ t.is_within)
-
 module _ (l : Ledger) (line : List ℕ) where
-  pub line_refused : (h : Header) (x : Refusal) → read_line line ≡ Err x → LineTaken l line (record { answer = Err x; header = h }) l
-  line_refused h x e = record { answer_is = rw e; after_is = rw e }
+  pub line_refused : (x : Refusal) → read_line line ≡ Err x → LineTaken l line (Err x) l
+  line_refused x e = record { answer_is = rw e; after_is = rw e }
 
-  pub line_taken : (e : Event) (r : Outcome) (l' : Ledger) → read_line line ≡ Ok e → Taken l e r l' → LineTaken l line r l'
+  pub line_taken : (e : Event) (r : Result Unit Refusal) (l' : Ledger) → read_line line ≡ Ok e → Taken l e r l' → LineTaken l line r l'
   line_taken e r l' q t = record { answer_is = rw q t.answer_is; after_is = rw q t.after_is }
 
 -- ---- a line that has ended
@@ -78,15 +66,15 @@ answer_narrow (Ok tt) = omega arith
 answer_narrow (Err r) = omega (arith, number_of_most r)
 
 module _ (l : Ledger) (p : Progress) (line out : List ℕ) (h : p.lines < last_number) (room : p.written + answer_length ≤ length out) where
-  pub output_line : (r : Outcome) (l' : Ledger) (number : ℕ) (out' : List ℕ)
+  pub output_line : (r : Result Unit Refusal) (l' : Ledger) (number : ℕ) (out' : List ℕ)
       → LineTaken l line r l'
-      → number ≡ answer_number r.answer
+      → number ≡ answer_number r
       → out' ≡ cond (answer_fits p.written (p.lines + 1) number out) (pasted p.written (answer_line (p.lines + 1) number) out) out
-      → LineAnswered l p line out (record { header = r.header; lines = p.lines + 1; written = p.written + answer_length }) l' out'
+      → LineAnswered l p line out (record { lines = p.lines + 1; written = p.written + answer_length }) l' out'
   output_line r l' number out' t e w =
       let f = lt-ltb p.lines last_number h in
       let q : number ≡ answer_number (answer_to l (read_line line)) = e ∙ ap answer_number t.answer_is in
-      let fits = answer_fits_made p.written (p.lines + 1) number out room (omega arith) (rw e (answer_narrow r.answer)) in
+      let fits = answer_fits_made p.written (p.lines + 1) number out room (omega arith) (rw e (answer_narrow r)) in
       record {
         run = rw (f, t.after_is);
         bytes = rw (f, ← q) (rw fits at w);
@@ -96,22 +84,26 @@ module _ (l : Ledger) (p : Progress) (line out : List ℕ) (h : p.lines < last_n
 -- ---- the lines of a text
 
 -- what was prepared stays so: a line keeps safe memory safe, and the rows that the indexes cover
-module _ (mandateIndex collectionIndex : List ℕ) where
-  line_prepared : (l : Ledger) (a : Result Event Refusal) → Prepared mandateIndex collectionIndex l → Prepared mandateIndex collectionIndex (after_line l a)
+module _ (made : Indexes) where
+  line_prepared : (l : Ledger) (a : Result Event Refusal) → Prepared made l → Prepared made (after_line l a)
   line_prepared l (Ok e) p =
       record {
         safe = after_safe l e p.safe;
-        mandates = indexed_kept mandateIndex l.mandates _ l.mandates_used _ p.mandates (mandates_grown l e);
-        collections = indexed_kept collectionIndex l.collections _ l.collections_used _ p.collections (collections_grown l e);
+        mandates = indexed_kept made.mandates l.mandates _ l.mandates_used _ p.mandates (mandates_grown l e);
+        collections = indexed_kept made.collections l.collections _ l.collections_used _ p.collections (collections_grown l e);
       }
   line_prepared l (Err r) p = p
 
-  ended_prepared : (l : Ledger) (n : ℕ) (line : List ℕ) → Prepared mandateIndex collectionIndex l → Prepared mandateIndex collectionIndex (ended (run_at l n []) line).book
+  ended_prepared : (l : Ledger) (n : ℕ) (line : List ℕ) → Prepared made l → Prepared made (ended (run_at l n []) line).book
   ended_prepared l n line p = by_more (ltb n last_number)
     where
-      by_more : (more : Bool) → Prepared mandateIndex collectionIndex (cond more (run_at (after_line l (read_line line)) (n + 1) []) (run_at l n [])).book
+      by_more : (more : Bool) → Prepared made (cond more (run_at (after_line l (read_line line)) (n + 1) []) (run_at l n [])).book
       by_more true = line_prepared l (read_line line) p
       by_more false = p
+
+known_kept : (known : Option (Bor Indexes)) (l : Ledger) (n : ℕ) (line : List ℕ) → WhenKnown known l → WhenKnown known (ended (run_at l n []) line).book
+known_kept None l n line k = tt
+known_kept (Some made) l n line k = ended_prepared made.now l n line k
 
 -- a line writes one answer at most
 ended_short : (r : Run) (line : List ℕ) → length (line_output r line) ≤ answer_length
@@ -123,19 +115,19 @@ ended_short r line = by_more (ltb r.lines last_number)
 
 -- the lines before a place have been answered
 pub record AnsweredTo
-    (prepared : Bool) (mandateIndex collectionIndex : List ℕ) (s : Run) (text out : List ℕ) (at : ℕ) (l : Ledger) (p : Progress) (out' : List ℕ) : Type 0 where
-  pub tested : WhenPrepared prepared mandateIndex collectionIndex l
+    (known : Option (Bor Indexes)) (s : Run) (text out : List ℕ) (at : ℕ) (l : Ledger) (p : Progress) (out' : List ℕ) : Type 0 where
+  pub tested : WhenKnown known l
   pub answered : Answering s text at l p.lines (text_output s (take at text))
   pub bytes : out' ≡ pasted 0 (text_output s (take at text)) out
   pub written : p.written ≡ length (text_output s (take at text))
   pub few : p.written ≤ answer_length * at
   pub inside : at ≤ length text
 
-module _ (prepared : Bool) (mandateIndex collectionIndex text out : List ℕ) where
+module _ (known : Option (Bor Indexes)) (text out : List ℕ) where
   pub answered_start : (l : Ledger) (p : Progress)
-      → WhenPrepared prepared mandateIndex collectionIndex l
+      → WhenKnown known l
       → p.written ≡ 0
-      → AnsweredTo prepared mandateIndex collectionIndex (run_at l p.lines []) text out 0 l p out
+      → AnsweredTo known (run_at l p.lines []) text out 0 l p out
   unfolding take_text text_output
   answered_start l p k z =
       record {
@@ -150,10 +142,10 @@ module _ (prepared : Bool) (mandateIndex collectionIndex text out : List ℕ) wh
   -- one line more, from at to k
   module _ (s : Run) (at k : ℕ) (f : FirstEnd text at k) where
     pub answered_line : (l l' : Ledger) (p r : Progress) (line mid next : List ℕ)
-        → AnsweredTo prepared mandateIndex collectionIndex s text out at l p mid
+        → AnsweredTo known s text out at l p mid
         → line ≡ take (k + 1 - at) (drop at text)
         → LineAnswered l p line mid r l' next
-        → AnsweredTo prepared mandateIndex collectionIndex s text out (k + 1) l' r next
+        → AnsweredTo known s text out (k + 1) l' r next
     answered_line l l' p r line mid next t e w =
         let written = text_output s (take at text) in
         let more = line_output (run_at l p.lines []) line in
@@ -161,7 +153,7 @@ module _ (prepared : Bool) (mandateIndex collectionIndex text out : List ℕ) wh
         let q : text_output s (take (k + 1) text) ≡ written ++ more = a.so_far in
         let n : length (text_output s (take (k + 1) text)) ≡ length written + length more = ap length q ∙ length-append written more in
         record {
-          tested = λ i. rw (ap (λ (x : Run). x.book) w.run) (ended_prepared mandateIndex collectionIndex l p.lines line (t.tested i));
+          tested = rw (ap (λ (x : Run). x.book) w.run) (known_kept known l p.lines line t.tested);
           answered = record { now = a.now; so_far = refl };
           bytes = rw q (pasted_next 0 written out p.written more mid next (omega arith) (sym t.written) t.bytes (rw (zero-add) w.bytes));
           written = omega (arith, w.written, t.written, n);
@@ -170,11 +162,11 @@ module _ (prepared : Bool) (mandateIndex collectionIndex text out : List ℕ) wh
         }
 
   -- no line ends behind the place
-  pub answered_end : (s : Run) (at : ℕ) (l : Ledger) (p : Progress) (out' : List ℕ) (h : Header)
-      → AnsweredTo prepared mandateIndex collectionIndex s text out at l p out'
+  pub answered_end : (s : Run) (at : ℕ) (l : Ledger) (p : Progress) (out' : List ℕ)
+      → AnsweredTo known s text out at l p out'
       → ((j : ℕ) → at ≤ j → j < length text → get_or text j 0 ≢ line_end)
-      → LinesAnswered s text out (record { header = h; lines = p.lines; written = p.written; at = at }) l out'
-  answered_end s at l p out' h t none =
+      → LinesAnswered s text out (record { lines = p.lines; written = p.written; at = at }) l out'
+  answered_end s at l p out' t none =
       let q = rest_output text at none s l p.lines (text_output s (take at text)) t.answered in
       record {
         run = rest_after text at none s l p.lines (text_output s (take at text)) t.answered;
@@ -195,61 +187,17 @@ partial_length text at filled n h k e =
     e
     ∙ omega (arith, length-take clipped_length (drop at (take filled text)), length-drop at (take filled text), length-take-le filled text k)
 
--- the first i bytes have been moved to the front
-pub record Moving (text : List ℕ) (at i : ℕ) (now : List ℕ) : Type 0 where
-  pub bytes : now ≡ pasted 0 (take i (drop at text)) text
-
-module _ (text : List ℕ) (at : ℕ) where
-  pub moving_start : Moving text at 0 text
-  moving_start = record { bytes = refl }
-
-  pub moving_step : (i : ℕ) (now : List ℕ) → at + i < length text → Moving text at i now → Moving text at (i + 1) (set now i (get_or now (at + i) 0))
-  moving_step i now h m =
-      let front = take i (drop at text) in
-      let n : length front ≡ i = length-take-le i (drop at text) (omega (arith, length-drop at text)) in
-      let b : now ≡ front ++ drop i text = m.bytes ∙ ap (λ (z : ℕ). front ++ drop z text) (zero-add (length front) ∙ n) in
-      let g : get_or now (at + i) 0 ≡ get_or text (at + i) 0 =
-      ap (λ (x : List ℕ). get_or x (at + i) 0) b ∙ behind front i n in
-      record {
-        bytes =
-            ap (λ (x : List ℕ). set x i (get_or now (at + i) 0)) b
-            ∙ ap (λ (x : List ℕ). set x i (get_or now (at + i) 0)) (ap (λ (y : List ℕ). front ++ y) (drop-cons text i 0 (omega arith)))
-            ∙ set_at front (get_or text i 0) (drop (suc i) text) (get_or now (at + i) 0) i n
-            ∙ rest i (get_or now (at + i) 0) h g;
-      }
-    where
-      behind : (front : List ℕ) (i : ℕ) → length front ≡ i → get_or (front ++ drop i text) (at + i) 0 ≡ get_or text (at + i) 0
-      behind front i n =
-          let m : at + i ≡ length front + at = omega arith in
-          ap (λ (z : ℕ). get_or (front ++ drop i text) z 0) m
-          ∙ get_or-append-add front (drop i text) at 0
-          ∙ get_or-drop i text at 0
-          ∙ ap (λ (z : ℕ). get_or text z 0) (add_comm i at)
-
-      rest : (i x : ℕ) → at + i < length text → x ≡ get_or text (at + i) 0 → take i (drop at text) ++ (x ∷ drop (suc i) text) ≡ pasted 0 (take (i + 1) (drop at text)) text
-      rest i x h g =
-          let d = drop at text in
-          let k = length-drop at text in
-          let s : take (suc i) d ≡ take i d ++ (x ∷ []) =
-          take-suc d i 0 (omega arith) ∙ ap (λ (z : ℕ). take i d ++ (z ∷ [])) (get_or-drop at text i 0 ∙ sym g) in
-          let n : 0 + length (take (suc i) d) ≡ suc i = omega (arith, length-take-le (suc i) d (omega arith)) in
-          sym
-          (ap (λ (z : ℕ). take z d ++ drop (0 + length (take z d)) text) (add-one i)
-          ∙ ap (λ (m : ℕ). take (suc i) d ++ drop m text) n
-          ∙ ap (λ (y : List ℕ). y ++ drop (suc i) text) s
-          ∙ append_assoc (take i d) (x ∷ []) (drop (suc i) text))
-
--- all that is kept has been moved
-pub moving_end : (text : List ℕ) (at filled n i : ℕ) (now : List ℕ)
-    → at ≤ filled
-    → filled ≤ length text
-    → n ≡ min (filled - at) clipped_length
-    → i ≡ n
-    → Moving text at i now
-    → now ≡ pasted 0 (clipped (drop at (take filled text))) text
-moving_end text at filled n i now h k e q m =
-    m.bytes ∙ ap (λ (x : List ℕ). pasted 0 x text) (ap (λ (z : ℕ). take z (drop at text)) q ∙ kept_same)
+-- what is copied to the front
+pub partial_kept : (text : List ℕ) (at filled n : ℕ) → at ≤ filled → filled ≤ length text → n ≡ min (filled - at) clipped_length
+    → copy_within text at (at + n) 0 ≡ pasted 0 (clipped (drop at (take filled text))) text
+partial_kept text at filled n h k e =
+    ap (λ (m : ℕ). take m (drop at text) ++ drop (0 + m) text) (back at n)
+    ∙ ap (λ (x : List ℕ). x ++ drop (0 + n) text) kept_same
+    ∙ ap (λ (m : ℕ). clipped (drop at (take filled text)) ++ drop (0 + m) text) (partial_length text at filled n h k e)
   where
+    back : (a b : ℕ) → a + b - a ≡ b
+    back a b = omega arith
+
     kept_same : take n (drop at text) ≡ clipped (drop at (take filled text))
     kept_same =
         let d = drop at text in
@@ -282,29 +230,26 @@ module _ (filled : ℕ) (text out : List ℕ) (fits : piece_fits filled text out
       omega (arith, piece_count, leb-true filled (length out / answer_length) (and_halves (leb filled (length text)) fits).1)
 
 module _ (l : Ledger) (lines filled : ℕ) (text out : List ℕ) where
-  pub piece_refused : (h : Header) → piece_fits filled text out ≡ false → PieceTaken l lines filled text out (unfit_piece h lines filled) l text out
-  piece_refused h f =
+  pub piece_refused : piece_fits filled text out ≡ false → PieceTaken l lines filled text out (Err UnfitMemory) l text out
+  piece_refused f =
       record {
-        advanced = record { answer_is = rw f; number_is = rw f; book_is = rw f; lines_are = rw f; partial_is = rw f; written_is = rw f; out_is = rw f };
+        advanced = record { answer_is = rw f; number_is = rw f; book_is = rw f; out_is = rw f };
         text_is = rw f;
       }
 
-  pub piece_taken : (d : Lines) (h : Header) (partial : ℕ) (l' : Ledger) (text' out' : List ℕ)
+  pub piece_taken : (d : Lines) (partial : ℕ) (l' : Ledger) (text' out' : List ℕ)
       → piece_fits filled text out ≡ true
       → LinesAnswered (run_at l lines []) (take filled text) out d l' out'
       → partial ≡ length (clipped (drop d.at (take filled text)))
       → text' ≡ pasted 0 (clipped (drop d.at (take filled text))) text
-      → PieceTaken l lines filled text out (record { answer = (Ok tt); header = h; lines = d.lines; partial = partial; written = d.written }) l' text' out'
-  piece_taken d h partial l' text' out' f t b w =
+      → PieceTaken l lines filled text out (Ok (record { lines = d.lines; partial = partial; written = d.written })) l' text' out'
+  piece_taken d partial l' text' out' f t b w =
       record {
         advanced =
             record {
-              answer_is = rw f;
+              answer_is = rw (f, t.run, b, t.written);
               number_is = rw f;
               book_is = rw (f, t.run);
-              lines_are = rw (f, t.run);
-              partial_is = rw (f, t.run) b;
-              written_is = rw f t.written;
               out_is = rw f t.bytes;
             };
         text_is = rw (f, t.run) w;

@@ -1,11 +1,7 @@
-use Prim.Native.Nat.{◌-◌, ◌≤◌}
 use lib.ListN.{length}
 use Rattle.listing.specs.Listing.{table_output}
 use Rattle.digits.proofs.Laws.Buffer.{Written}
 use Rattle.listing.proofs.listing.list_kind.Given as goal
 
 abbrev pub invariant-loop-i : goal.invariant-loop-i
-invariant-loop-i l = (l.i ≤ length l.positions) × Written l.at l.initial.out (table_output l.kind l.positions l.i) l.next l.out
-
-abbrev pub decreases-loop-i : goal.decreases-loop-i
-decreases-loop-i l = length l.positions - l.i
+invariant-loop-i l = Written l.at l.initial.out (table_output l.kind l.positions l.i) l.next l.out
