@@ -26,7 +26,7 @@ pub const COMPENSATION: usize = 0;
 pub const FIGURE: usize = 1;
 
 // What a text leaves: the lines answered, the bytes of the partial line, the bytes written, and the lines that were not taken.
-#[derive(Clone, Copy)]
+#[derive(Clone, Copy, Debug, PartialEq, Eq, Default)]
 pub struct Counts {
     pub lines: u64,
     pub partial: usize,

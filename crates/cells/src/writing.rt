@@ -3,25 +3,19 @@ ghost use Rattle.std.specs.Prelude.{◌≡◌, set};
 ghost use Rattle.model.specs.Step.{query_number};
 ghost use Rattle.cells.specs.Cells.{header_state, header_cents, counts_state, written_state, figure_cents, fresh_state, fresh_cents};
 
-use crate::{COLLECTIONS_USED, COMPENSATION, Counts, FIGURE, FILLED, LATEST, LINES, MANDATES_USED, PAST, WRITTEN};
-use refusals::{Refusal, number_of};
+use crate::{
+    COLLECTIONS_USED, COMPENSATION, Counts, FIGURE, FILLED, LATEST, LINES, MANDATES_USED, PAST,
+    WRITTEN,
+};
+use refusals::{Refusal, answer_number};
 use tables::Header;
 
-// Writes a cell, if it is there.
-fn put(cells: &mut [u64], i: usize, x: u64)
+// Writes a cell, if it is there. By `get_mut` the proof did not close: of a slice it tells the length after the write, and no element.
+fn put<T: Copy>(cells: &mut [T], i: usize, x: T)
     ensures { cells.new ≡ set cells.old i x }
 {
     if i < cells.len() {
         cells[i] = x;
-    }
-}
-
-// Writes a cell of cents, if it is there.
-fn put_cents(cents: &mut [i64], i: usize, x: i64)
-    ensures { cents.new ≡ set cents.old i x }
-{
-    if i < cents.len() {
-        cents[i] = x;
     }
 }
 
@@ -33,7 +27,7 @@ pub fn put_header(header: Header, state: &mut [u64], cents: &mut [i64])
     put(state, LATEST, header.latest);
     put(state, MANDATES_USED, header.mandates as u64);
     put(state, COLLECTIONS_USED, header.collections as u64);
-    put_cents(cents, COMPENSATION, header.compensation);
+    put(cents, COMPENSATION, header.compensation);
 }
 
 // Writes what a text leaves; the other cells stay.
@@ -64,15 +58,9 @@ pub fn put_fresh(state: &mut [u64], cents: &mut [i64])
         collections: 0,
         compensation: 0,
     };
-    let counts = Counts {
-        lines: 0,
-        partial: 0,
-        written: 0,
-        past: 0,
-    };
     put_header(header, state, cents);
-    put_counts(counts, state);
-    put_cents(cents, FIGURE, 0);
+    put_counts(Counts::default(), state);
+    put(cents, FIGURE, 0);
 }
 
 // The number of the answer to a position query; its figure is written where there is one.
@@ -80,11 +68,8 @@ pub fn put_query(answer: Result<i64, Refusal>, cents: &mut [i64]) -> u64
     ensures number { result ≡ query_number answer }
     ensures cents { cents.new ≡ figure_cents answer cents.old }
 {
-    match answer {
-        Ok(figure) => {
-            put_cents(cents, FIGURE, figure);
-            0
-        }
-        Err(r) => number_of(r),
+    if let Ok(figure) = answer {
+        put(cents, FIGURE, figure);
     }
+    answer_number(&answer)
 }
