@@ -1,6 +1,6 @@
 -- Where a line of the input ends. Document 01, "The text line": at a byte 10 and nowhere else. Bytes are numbers.
 -- To cite: proofs/Laws/Cut. Assumes nothing.
-use Rattle.std.specs.Prelude.{Bool, true, false, List, ℕ, ◌-◌, eqb, length, get_or, Option, Some, None}
+use Rattle.std.specs.Prelude.{◌≡◌, ◌≢◌, Bool, true, false, List, ℕ, ◌-◌, ◌<◌, eqb, length, get_or, Option, Some, None}
 use Rattle.common.specs.Walk.{first_from}
 use Rattle.lines.specs.Line.{line_end}
 
@@ -18,3 +18,7 @@ is_none (Some i) = false
 abbrev pub is_at : ℕ → Option ℕ → Bool
 is_at k None = false
 is_at k (Some i) = eqb i k
+
+-- the first byte that ends a line is at i
+abbrev pub IsFirstEnd : List ℕ → ℕ → Type 0
+IsFirstEnd text i = (i < length text) × (get_or text i 0 ≡ line_end) × ((k : ℕ) → k < i → get_or text k 0 ≢ line_end)

@@ -1,11 +1,9 @@
 -- The lines that the program `ledger` writes. Document 01, "The text line". Bytes are numbers; a number in its field is that of
 -- crates/digits, `field_bytes` without a sign and `signed_bytes` with one. Assumes nothing.
-use Rattle.std.specs.Prelude.{Bool, cond, ◌&&◌, List, [], ◌∷◌, ◌++◌, ℕ, leb, ℤ, length}
+use Rattle.std.specs.Prelude.{Bool, ◌&&◌, List, [], ◌∷◌, ◌++◌, ℕ, leb, ℤ, length}
 use Rattle.positions.specs.Positions.{position_limit, in_limit}
 use Rattle.digits.specs.Field.{field_bytes, signed_bytes, has_room}
 use Rattle.lines.specs.Line.{line_end}
-use Rattle.report.specs.declared.layout.Placed.{Placed}
-use Rattle.report.specs.declared.layout.Placed.TheVariants.{Written, NoRoom}
 
 -- ---- the two lines
 
@@ -41,6 +39,3 @@ answer_fits at number answer out =
 unfoldable pub position_fits : ℕ → ℕ → ℕ → ℤ → List ℕ → Bool
 position_fits at kind number cents out =
     has_room at position_length (length out) && leb kind widest_kind && leb number last_number && in_limit position_limit cents
-
-abbrev pub placed : Bool → Placed
-placed fits = cond fits Written NoRoom

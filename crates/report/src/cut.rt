@@ -1,7 +1,8 @@
 // Where a line of the input ends: specs/Cut.
-ghost use Rattle.std.specs.Prelude.{◌≡◌, ◌+◌};
-ghost use Rattle.lines.specs.Line.{columns};
-ghost use Rattle.report.specs.Cut.{end_from, is_none, is_at};
+ghost use Rattle.std.specs.Prelude.{◌≡◌, ◌≢◌, ◌≤◌, ◌<◌, length, IfSome, slice_index, EachIndex, MatchOption};
+ghost use Rattle.std.specs.List.{prefix_len};
+ghost use Rattle.lines.specs.Line.{columns, line_end};
+ghost use Rattle.report.specs.Cut.{end_from, is_none, is_at, IsFirstEnd};
 
 use lines::line::{COLUMNS, LINE_END};
 
@@ -13,69 +14,59 @@ fn is_endless(text: &[u8]) -> bool
     ensures { result ≡ is_none (end_from text.now 0) }
 {
     let mut none = true;
-    let mut i: usize = 0;
-    while i < text.len() {
-        none = none & (text[i] != LINE_END);
-        i += 1;
+    for b in text {
+        none &= *b != LINE_END;
     }
     none
 }
 
-// Whether the line from a place on ends where a sound line does.
-fn ends_soundly(text: &[u8], from: usize) -> bool
-    ensures { result ≡ is_at (from + columns) (end_from text.now from) }
+// Whether the line that begins a text ends where a sound line does.
+fn ends_soundly(text: &[u8]) -> bool
+    ensures { result ≡ is_at columns (end_from text.now 0) }
 {
-    if text.len() <= COLUMNS {
-        return false;
-    }
-    if text.len() - COLUMNS <= from {
-        return false;
-    }
-    let end = from + COLUMNS;
-    if text[end] != LINE_END {
-        return false;
-    }
-    is_endless(&text[from..end])
+    COLUMNS < text.len() && text[COLUMNS] == LINE_END && is_endless(&text[0..COLUMNS])
 }
 
-// A place before which, from a place on, no line ends: some bytes are passed over a turn.
-fn skip(text: &[u8], from: usize) -> usize
-    ensures { end_from text.now result ≡ end_from text.now from }
+// How many parts that begin a text end no line.
+fn endless_parts(parts: &[[u8; STEP]]) -> usize
+    ensures passed { result ≡ prefix_len (λ part. is_none (end_from part 0)) parts.now }
+    ensures bound { result ≤ length parts.now }
 {
-    let mut i = from;
-    while i < text.len() {
-        if text.len() - i < STEP {
-            return i;
-        }
-        let end = i + STEP;
-        if !is_endless(&text[i..end]) {
-            return i;
-        }
-        i = end;
-    }
-    i
+    parts.iter().take_while(|part| is_endless(*part)).count()
 }
 
-// The first end of a line from a place on; at last byte by byte.
-fn scan(text: &[u8], from: usize) -> Option<usize>
-    ensures { result ≡ end_from text.now from }
+// A place before which no line ends: some bytes are passed over at a time.
+fn skip(text: &[u8]) -> usize
+    ensures inside { result ≤ length text.now }
+    ensures rest { end_from text.now result ≡ end_from text.now 0 }
 {
-    let mut i = skip(text, from);
-    while i < text.len() {
-        if text[i] == LINE_END {
-            return Some(i);
-        }
-        i += 1;
-    }
-    None
+    let (parts, _) = text.as_chunks();
+    STEP * endless_parts(parts)
+}
+
+// The first byte that ends a line.
+fn first_end(text: &[u8]) -> Option<usize>
+    ensures { MatchOption result (EachIndex text.now (λ k. slice_index text.now k ≢ line_end)) (λ i. IsFirstEnd text.now i) }
+{
+    text.iter().position(|b| *b == LINE_END)
+}
+
+// The first end of a line; at last byte by byte.
+fn scan(text: &[u8]) -> Option<usize>
+    ensures is { result ≡ end_from text.now 0 }
+    ensures inside { IfSome result (λ i. i < length text.now) }
+{
+    let from = skip(text);
+    first_end(&text[from..]).map(|i| from + i)
 }
 
 // The first end of a line from a place on; first it is looked for where a sound line has it.
 pub fn line_end(text: &[u8], from: usize) -> Option<usize>
     ensures { result ≡ end_from text.now from }
 {
-    if ends_soundly(text, from) {
+    let rest = text.get(from..)?;
+    if ends_soundly(rest) {
         return Some(from + COLUMNS);
     }
-    scan(text, from)
+    scan(rest).map(|i| from + i)
 }

@@ -1,21 +1,10 @@
 // Cases of the text of the program `ledger`, for comparison with lines that document 01 shows or that follow from it, as
-// tests/report_oracle.py works them out.
+// tests/report_oracle.py works them out. Each call stands by itself with its numbers, and not in a loop over a table: the oracle reads the
+// calls in this text.
 #![tactic(auto)]
 
-use report::layout::Placed;
 use report::{cut, layout};
 use std::io;
-
-fn put(rt: &impl Print, n: u64) -> io::Result<()> {
-    println!(rt; "{n}")
-}
-
-fn written(p: Placed) -> u64 {
-    match p {
-        Placed::Written => 1,
-        Placed::NoRoom => 0,
-    }
-}
 
 // An answer line alone.
 fn answer(rt: &impl Print, number: u64, answer: u64) -> io::Result<()> {
@@ -47,8 +36,8 @@ fn example(rt: &impl Print) -> io::Result<()> {
 }
 
 // Whether a line was written, and the whole buffer after it.
-fn show(rt: &impl Print, p: Placed, out: &[u8]) -> io::Result<()> {
-    put(rt, written(p))?;
+fn show(rt: &impl Print, written: bool, out: &[u8]) -> io::Result<()> {
+    println!(rt; "{}", u8::from(written))?;
     rt.write_all(out)?;
     println!(rt; "|")
 }
@@ -60,8 +49,8 @@ fn answer_to(
     number: u64,
     answer: u64,
 ) -> io::Result<()> {
-    let placed = layout::answer_line(out, at, number, answer);
-    show(rt, placed, out)
+    let written = layout::answer_line(out, at, number, answer);
+    show(rt, written, out)
 }
 
 fn position_to(
@@ -72,8 +61,8 @@ fn position_to(
     number: u64,
     cents: i64,
 ) -> io::Result<()> {
-    let placed = layout::position_line(out, at, kind, number, cents);
-    show(rt, placed, out)
+    let written = layout::position_line(out, at, kind, number, cents);
+    show(rt, written, out)
 }
 
 fn answers(rt: &impl Print) -> io::Result<()> {

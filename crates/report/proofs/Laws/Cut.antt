@@ -1,12 +1,15 @@
 -- Laws of specs/Cut. To cite: `FirstEnd` with `end_from_at`, `end_from_none`, `end_from_first`, `end_from_past`, and `end_from_cases`, from which both
 -- follow; `Endless` with `is_none_endless`. The rest serves the functions of src/cut.rt. Assumes nothing.
-use Rattle.std.proofs.Common.{None, Option, Some, ℕ}
+use Rattle.std.proofs.Common.{None, Option, Some, MatchOption, EachIndex, option_map, ◌*◌, ℕ}
+use Rattle.std.specs.List.{prefix_len}
+use Rattle.std.proofs.lemmas.List.{take_rest}
+use Rattle.std.specs.Simd.{first_chunks}
 use mathlib.Core.Path.{◌≡◌, refl, sym, ap, ◌∙◌}
 use mathlib.Core.Bool.{Bool, true, false, not, ◌&&◌, and-true, and-false}
 use mathlib.Core.List.{List}
 use mathlib.Core.Logic.{⊎_elim, ◌≢◌}
-use Prim.Native.Nat.{ℕ, ◌+◌, ◌-◌, ◌≤◌, ◌<◌}
-use native.Mathlib.Nat.{eq-or-lt_of_le}
+use Prim.Native.Nat.{ℕ, zero, suc, ◌+◌, ◌-◌, ◌≤◌, ◌<◌}
+use native.Mathlib.Nat.{eq-or-lt_of_le, add-zero}
 use native.Mathlib.Omega.{arith}
 use borrow.Author.Tests.{eq-eqb, eqb-true, eqb-false, leb-true, leb-false}
 use lib.Dec.{leb}
@@ -16,7 +19,7 @@ use Rattle.common.specs.Walk.{first_from}
 use Rattle.common.proofs.Tests.{never, true_or_false, false_unless}
 use Rattle.common.proofs.Walk.{first_from_hit, first_from_miss, first_from_end, cases_from}
 use Rattle.lines.specs.Line.{line_end}
-use Rattle.report.specs.Cut.{ends_at, end_from, is_none, is_at}
+use Rattle.report.specs.Cut.{ends_at, end_from, is_none, is_at, IsFirstEnd}
 
 -- no byte of it ends a line
 abbrev pub Endless : List ℕ → Type 0
@@ -86,6 +89,45 @@ module _ (text : List ℕ) (from : ℕ) where
           (eq-or-lt_of_le (leb-true k i h)))
           (λ (h : leb k i ≡ false). absurd (f.none_before i g.onward (leb-false k i h) g.ends))
           (true_or_false (leb k i))
+
+module _ (text : List ℕ) (from : ℕ) where
+  pub end_from_no : ((j : ℕ) → from ≤ j → j < length text → get_or text j 0 ≢ line_end) → end_from text from ≡ None
+  end_from_no none = end_from_cases text from (λ (a : Option ℕ). a ≡ None) (λ i f. absurd (none i f.onward f.inside f.ends)) (λ n. refl)
+
+-- the first end by the bytes behind a place
+pub end_from_drop : (text : List ℕ) (k j : ℕ) → k ≤ length text → end_from text (k + j) ≡ option_map (λ i. k + i) (end_from (drop k text) j)
+end_from_drop text k j h =
+    end_from_cases (drop k text) j (λ (a : Option ℕ). end_from text (k + j) ≡ option_map (λ i. k + i) a)
+    (λ i f.
+    end_from_first text (k + j) (k + i)
+    (record {
+      onward = omega (arith, f.onward);
+      inside = let d = length-drop k text in omega (arith, f.inside);
+      ends = sym (get_or-drop k text i 0) ∙ f.ends;
+      none_before = λ n lo hi q.
+          let m : k + (n - k) ≡ n = omega arith in
+          f.none_before (n - k) (omega arith) (omega arith) (get_or-drop k text (n - k) 0 ∙ ap (λ (x : ℕ). get_or text x 0) m ∙ q);
+    }))
+    (λ none.
+    end_from_no text (k + j)
+    (λ n lo hi q.
+    let m : k + (n - k) ≡ n = omega arith in
+    let d = length-drop k text in
+    none (n - k) (omega arith) (omega arith) (get_or-drop k text (n - k) 0 ∙ ap (λ (x : ℕ). get_or text x 0) m ∙ q)))
+
+pub end_from_rest : (text rest : List ℕ) (k : ℕ)
+    → k ≤ length text
+    → rest ≡ take (length text - k) (drop k text)
+    → end_from text k ≡ option_map (λ i. k + i) (end_from rest 0)
+end_from_rest text rest k h e =
+    ap (end_from text) (sym (add-zero k))
+    ∙ end_from_drop text k 0 h
+    ∙ ap (λ (r : List ℕ). option_map (λ i. k + i) (end_from r 0)) (sym (e ∙ take_rest text k))
+
+pub first_end_is : (text : List ℕ) (r : Option ℕ) → MatchOption r (EachIndex text (λ k. get_or text k 0 ≢ line_end)) (IsFirstEnd text) → r ≡ end_from text 0
+first_end_is text None e = sym (end_from_no text 0 (λ j lo hi. e j hi))
+first_end_is text (Some i) e =
+    sym (end_from_first text 0 i (record { onward = omega arith; inside = e.0; ends = e.1; none_before = λ j lo hi. e.2 j hi }))
 
 -- bytes that end no line are passed over
 module _ (text : List ℕ) (from k : ℕ) (h : from + k ≤ length text) (none : Endless (take (from + k - from) (drop from text))) where
@@ -195,3 +237,19 @@ module _ (text : List ℕ) (from k : ℕ) where
           let n = length-take (from + k - from) (drop from text) in
           f.none_before (from + j) (omega arith) (omega arith)
           (sym (get_or-drop from text j 0) ∙ sym (get_or-take (from + k - from) (drop from text) j 0 (omega arith)) ∙ q)
+
+-- parts of 16 bytes that end no line
+abbrev pub endless_parts : ℕ → List ℕ → ℕ
+endless_parts n text = prefix_len (λ part. is_none (end_from part 0)) (first_chunks 16 n text)
+
+pub parts_past : (n : ℕ) (text : List ℕ) → n * 16 ≤ length text → end_from text (16 * endless_parts n text) ≡ end_from text 0
+parts_past zero text h = refl
+parts_past (suc n) text h =
+    ⊎_elim
+    (λ (e : is_none (end_from (take 16 text) 0) ≡ true).
+    let d = length-drop 16 text in
+    let q : 16 * (1 + endless_parts n (drop 16 text)) ≡ 16 + 16 * endless_parts n (drop 16 text) = omega arith in
+    rw (e, q, end_from_drop text 16 (16 * endless_parts n (drop 16 text)) (omega arith), parts_past n (drop 16 text) (omega arith))
+    (sym (end_from_drop text 16 0 (omega arith)) ∙ end_from_past text 0 16 (omega arith) (is_none_endless (take 16 text) e)))
+    (λ (e : is_none (end_from (take 16 text) 0) ≡ false). rw e)
+    (true_or_false (is_none (end_from (take 16 text) 0)))

@@ -1,21 +1,24 @@
--- `cut::ends_soundly` meets its contract: the text is too short, another byte stands there, or none ends a line before. Assumes nothing.
-use native.Mathlib.Omega.{arith}
-use mathlib.Core.Path.{◌∙◌}
+use Rattle.std.proofs.Common.{sym, ◌∙◌}
+use borrow.Author.Tests.{eqb-true, eqb-false, le-ltb}
 use Rattle.lines.specs.Line.{columns}
+use Rattle.common.proofs.Tests.{never}
 use Rattle.report.proofs.Laws.Cut.{not_short, not_other, none_before_is}
 use Rattle.report.proofs.cut.ends_soundly.Goals as goal
+use Rattle.report.proofs.cut.ends_soundly.Goals.{then-text-gt-COLUMNS, else-text-gt-COLUMNS}
 
-pub returns-then-text-le-COLUMNS : goal.returns-then-text-le-COLUMNS
-returns-then-text-le-COLUMNS c = not_short _ _ columns (omega (arith, c.if-text-le-COLUMNS.true))
-
-pub returns-then-text-from : goal.returns-then-text-from
-returns-then-text-from c = not_short _ _ columns (omega (arith, c.if-text-le-COLUMNS.false, c.if-text-from.true))
-
-pub returns-then-text-end-ne-LINE_END : goal.returns-then-text-end-ne-LINE_END
-returns-then-text-end-ne-LINE_END c = not_other _ _ columns c.if-text-end-ne-LINE_END.true
-
-pub returns : goal.returns
-returns c =
-    let d = c in
+pub returns-then-text-eq-LINE_END : goal.returns-then-text-eq-LINE_END
+returns-then-text-eq-LINE_END c =
     c.is_endless.ensures
-    ∙ none_before_is d.args.text.now d.args.from columns (omega (arith, d.if-text-le-COLUMNS.false, d.if-text-from.false)) c.if-text-end-ne-LINE_END.false
+    ∙ elim c.if-text-gt-COLUMNS.branch [
+      | then-text-gt-COLUMNS w ↦
+          none_before_is c.args.text.now 0 columns w.if-text-gt-COLUMNS.true (eqb-true _ _ (sym w.value-is ∙ c.if-text-eq-LINE_END.true))
+      | else-text-gt-COLUMNS w ↦ absurd (never c.if-text-eq-LINE_END.true (w.value-is ∙ le-ltb _ _ w.if-text-gt-COLUMNS.false))
+    ]
+
+pub returns-else-text-eq-LINE_END : goal.returns-else-text-eq-LINE_END
+returns-else-text-eq-LINE_END c =
+    c.if-text-eq-LINE_END.false
+    ∙ elim c.if-text-gt-COLUMNS.branch [
+      | then-text-gt-COLUMNS w ↦ not_other c.args.text.now 0 columns (eqb-false _ _ (sym w.value-is ∙ c.if-text-eq-LINE_END.false))
+      | else-text-gt-COLUMNS w ↦ not_short c.args.text.now 0 columns w.if-text-gt-COLUMNS.false
+    ]

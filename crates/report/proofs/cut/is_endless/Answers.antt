@@ -1,16 +1,9 @@
--- `cut::is_endless` meets its contract. The loop: what was found so far and what is left have the answer of the whole. Assumes nothing.
-use mathlib.Core.Path.{refl, ◌∙◌}
+use Rattle.std.proofs.Common.{◌∙◌}
 use Rattle.report.proofs.Laws.Cut.{none_step, none_end}
-use borrow.Author.Rules.{rules}
 use Rattle.report.proofs.cut.is_endless.Goals as goal
 
-pub loop-i-init : goal.loop-i-init
-loop-i-init c = (search rules, refl)
-
-pub loop-i-preserved : goal.loop-i-preserved
-loop-i-preserved c =
-    let l = c in
-    (search rules, none_step l.args.text.now l.loop-i.i l.loop-i.none c.loop-i-test.true ∙ l.loop-i.invariant.1)
+pub loop-b-preserved : goal.loop-b-preserved
+loop-b-preserved c = none_step c.args.text.now c.loop-b.b-index c.loop-b.none c.loop-b-test.true ∙ c.loop-b.invariant
 
 pub returns : goal.returns
-returns c = none_end _ _ _ c.loop-i-test.false ∙ c.loop-i.invariant.1
+returns c = none_end _ _ _ c.loop-b-test.false ∙ c.loop-b.invariant

@@ -1,22 +1,26 @@
--- `cut::line_end` meets its contract: the end where a sound line has it, or what the scan finds. Assumes nothing.
-use Rattle.std.proofs.Common.{Some}
-use native.Mathlib.Omega.{arith}
-use mathlib.Core.Path.{◌≡◌, sym, ◌∙◌}
-use mathlib.Core.Bool.{true}
-use Prim.Native.Nat.{◌+◌}
+use Rattle.std.proofs.Common.{rules, ◌≡◌, ◌∙◌, ◌+◌, ◌<◌, ap, sym, arith, length, option_map}
+use mathlib.Core.Logic.{⊎_elim}
 use Rattle.lines.specs.Line.{columns}
-use Rattle.report.specs.Cut.{end_from}
-use Rattle.report.proofs.Laws.Cut.{is_at_true, end_from_at}
+use Rattle.report.proofs.Laws.Cut.{end_from_no, end_from_rest, is_at_true}
 use Rattle.report.proofs.cut.line_end.Goals as goal
 
-pub overflow_add-result : goal.overflow_add-result
-overflow_add-result c =
-    let sound : c.ends_soundly.result ≡ true
-    → end_from c.args.text.now c.args.from ≡ Some (c.args.from + columns) = λ t. is_at_true _ _ (sym c.ends_soundly.ensures ∙ t) in
-    omega (arith, (end_from_at _ _ _ (sound c.if-ends_soundly.true)).inside, c.well_formed)
+pub returns-in_err-rest : goal.returns-in_err-rest
+returns-in_err-rest c =
+    let past : length c.args.text.now < c.args.from = ⊎_elim (λ h. h) (λ h. absurd (omega arith)) c.in_err-rest.ensures.lookup.0 in
+    c.from_residual.ensures ∙ sym (end_from_no _ _ (λ j lo hi. absurd (omega arith)))
 
 pub returns-then-ends_soundly : goal.returns-then-ends_soundly
 returns-then-ends_soundly c =
-    let sound : c.ends_soundly.result ≡ true
-    → end_from c.args.text.now c.args.from ≡ Some (c.args.from + columns) = λ t. is_at_true _ _ (sym c.ends_soundly.ensures ∙ t) in
-    sym (sound c.if-ends_soundly.true)
+    let l = c.in_ok-rest.ensures.lookup.0 in
+    let from = c.args.from in
+    ap (option_map (λ i. from + i)) (sym (is_at_true columns _ (sym c.ends_soundly.ensures ∙ c.if-ends_soundly.true)))
+    ∙ sym (end_from_rest c.args.text.now _ from l.0 l.2)
+
+pub returns : goal.returns
+returns c =
+    let l = c.in_ok-rest.ensures.lookup.0 in
+    let from = c.args.from in
+    let moved : c.map.result ≡ option_map (λ i. from + i) c.scan.result = search rules in
+    moved
+    ∙ ap (option_map (λ i. from + i)) c.scan.ensures.is
+    ∙ sym (end_from_rest c.args.text.now _ from l.0 l.2)
