@@ -26,4 +26,4 @@ pub returns : goal.returns
 returns c =
     let some : ends_line c.args.lines c.args.partial ≡ true = c.if-not-lines-partial.false in
     let e = c in
-    end_line _ _ _ _ _ (le-leb _ _ e.if-out-lt-ANSWER.false) some c.number_of.ensures c.answer_line.ensures.bytes
+    end_line _ _ _ _ _ (le-leb _ _ e.if-out-lt-ANSWER.false) some c.from.ensures c.answer_line.ensures.bytes

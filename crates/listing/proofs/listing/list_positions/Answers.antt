@@ -15,6 +15,7 @@ use Rattle.listing.specs.Listing.{listed}
 use Rattle.digits.proofs.Laws.Buffer.{Written}
 use Rattle.listing.proofs.Laws.Listing.{listed_is, first_kind, two_kinds, three_kinds, creditors_ready, debtors_ready, debtors_written, banks_ready, banks_written, cents_size, total_room, total_fits, listing_written}
 use borrow.Author.Rules.{rules}
+use Rattle.std.proofs.Common.{Ok}
 use Rattle.listing.proofs.listing.list_positions.Goals as goal
 
 pub returns-then-not-is_fit-out : goal.returns-then-not-is_fit-out
