@@ -6,7 +6,7 @@ use Rattle.common.specs.Tests.{all_of}
 use Rattle.common.specs.Checks.{Check, check, judged}
 use Rattle.calendar.specs.Gregorian.{in_range}
 use Rattle.refusals.specs.declared.Refusal.{Refusal}
-use Rattle.refusals.specs.Refusals.{number_of}
+use Rattle.refusals.specs.Refusals.{answer_number}
 use Rattle.refusals.specs.declared.Refusal.TheVariants.{UnknownKind, BadDate, BadField}
 use Rattle.events.specs.declared.Event.{Event}
 use Rattle.events.specs.declared.limits.Range.{Range}
@@ -100,10 +100,6 @@ table =
     ∷ row 10 unnamed unnamed number unnamed unnamed unnamed NoSecond  -- reversal
     ∷ []
 
--- what is read past the last row: a row of the kind 0, which no event has
-abbrev pub no_row : Row
-no_row = row 0 unnamed unnamed unnamed unnamed unnamed unnamed NoSecond
-
 -- the first of the rows that is of a kind and a code
 abbrev pub row_in : List Row → ℕ → ℕ → Option Row
 row_in [] kind code = None
@@ -153,8 +149,7 @@ checked e = judged (limit_checks e) (Ok tt)
 -- ---- the number of an answer: 0, or the refusal's
 
 abbrev pub checked_number : Result Unit Refusal → ℕ
-checked_number (Ok tt) = 0
-checked_number (Err r) = number_of r
+checked_number a = answer_number a
 
 -- the checking order in the paper's numbers: that of the first test that fails, or 0
 abbrev pub limit_numbers : Event → List (Check ℕ)

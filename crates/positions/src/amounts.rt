@@ -24,6 +24,7 @@ fn given(amount: i64, cents: i64) -> Postings
 }
 
 // The postings of a settle: the debtor is given the amount taken from 0.
+#[tactic(auto, unfolding(crate::specs::Answers::settlement_of))]
 pub fn settlement(amount: u64) -> Option<Postings>
     ensures { result ≡ settlement_of amount }
 {
@@ -31,6 +32,7 @@ pub fn settlement(amount: u64) -> Option<Postings>
 }
 
 // The postings of a return or a reversal.
+#[tactic(auto, unfolding(crate::specs::Answers::reversed_of))]
 pub fn reversed(amount: u64) -> Option<Postings>
     ensures { result ≡ reversed_of amount }
 {
@@ -38,6 +40,7 @@ pub fn reversed(amount: u64) -> Option<Postings>
 }
 
 // The postings of a refund with a compensation in cents.
+#[tactic(auto, unfolding(crate::specs::Answers::refunded_of))]
 pub fn refunded(amount: u64, cents: u64) -> Option<Postings>
     ensures { result ≡ refunded_of amount cents }
 {

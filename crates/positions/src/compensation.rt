@@ -20,6 +20,7 @@ fn in_limits(amount: u64, rate: u64, days: u64) -> bool
 }
 
 // The first product, of which the interest is made.
+#[tactic(auto, unfolding(crate::specs::Products::rate_days))]
 fn days_times_rate(days: u64, rate: u64) -> u64
     requires { (days ≤ days_limit) × (rate ≤ rate_limit) }
     ensures { result ≡ rate_days days rate }
@@ -28,6 +29,7 @@ fn days_times_rate(days: u64, rate: u64) -> u64
 }
 
 // The interest in parts of a cent: the first product by the amount.
+#[tactic(auto, using(crate::proofs::Laws::Products::interest_laws))]
 fn interest(amount: u64, rate: u64, days: u64) -> u64
     requires { InLimits amount rate days }
     ensures { result ≡ interestIn amount rate days }
@@ -36,6 +38,7 @@ fn interest(amount: u64, rate: u64, days: u64) -> u64
 }
 
 // Parts of a cent in whole cents, a half going up.
+#[tactic(auto, unfolding(crate::specs::Compensation::half_up))]
 fn half_up(parts: u64) -> u64
     requires { parts < interest_bound }
     ensures { result ≡ half_up parts parts_of_cent }
@@ -44,6 +47,7 @@ fn half_up(parts: u64) -> u64
 }
 
 // The compensation of a refund of an amount at a rate after some days.
+#[tactic(auto, using(crate::proofs::Laws::Products::interest_laws), unfolding(crate::specs::Compensation::compensation_of, crate::specs::Compensation::compensation))]
 pub fn compensation(amount: u64, rate: u64, days: u64) -> Option<u64>
     ensures { result ≡ compensation_of amount rate days }
 {

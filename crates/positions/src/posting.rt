@@ -38,6 +38,7 @@ pub fn is_entry(positions: &[i64], number: u64) -> bool
 }
 
 // The position of a number, 0 where there is no entry.
+#[tactic(auto, using(crate::proofs::Laws::Answers::position_steps))]
 pub fn position_of(positions: &[i64], number: u64) -> i64
     ensures { result ≡ position positions.now number }
 {
@@ -65,6 +66,7 @@ fn sizes_fit(position: i64, amount: i64) -> Result<(), PostError>
 }
 
 // Posts an amount to the position of a number.
+#[tactic(auto, using(crate::proofs::Laws::Answers::post_steps))]
 pub fn post(positions: &mut [i64], number: u64, amount: i64) -> Result<(), PostError>
     ensures answer { result ≡ post_answer positions.old number amount }
     ensures table { positions.new ≡ after_post positions.old number amount }

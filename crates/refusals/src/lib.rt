@@ -1,7 +1,7 @@
 // The refusals of document 01, "What is refused, in checking order", by name. specs/Refusals gives each its number.
 #![tactic(auto)]
 
-ghost use Rattle.std.specs.Prelude.{◌≡◌};
+ghost use Rattle.std.specs.Prelude.{◌≡◌, cond};
 ghost use Rattle.refusals.specs.Refusals.{number_of, answer_number};
 
 #[derive(Clone, Copy, Debug, PartialEq, Eq)]
@@ -57,6 +57,13 @@ pub fn number_of(r: Refusal) -> u64
     ensures { result ≡ number_of r }
 {
     u64::from(r)
+}
+
+// What comes of one test: a refusal where it is not passed.
+pub fn ensure(passed: bool, refusal: Refusal) -> Result<(), Refusal>
+    ensures { result ≡ cond passed (Ok tt) (Err refusal) }
+{
+    if passed { Ok(()) } else { Err(refusal) }
 }
 
 // The paper's number of an answer: 0 where nothing is refused.

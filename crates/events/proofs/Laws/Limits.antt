@@ -1,18 +1,17 @@
 -- Laws of specs/Limits. To cite: `checked_facts` (what an event within its limits has: `Limited`), `row_facts` (`Fits`), the
 -- facts of each kind (`creditor_facts` to `reversal_facts`), `kind_cases` (an event of known kind is of one of them), and
 -- `fields-narrow` (every field fits its column). Nothing but `unfolding table` looks at the rows. Assumes nothing.
-use Rattle.std.proofs.Common.{Err, None, Ok, Option, Result, Some}
+use Rattle.std.proofs.Common.{Err, None, Ok, Option, Result, Some, find}
 use mathlib.Core.Path.{◌≡◌, refl, sym, ◌∙◌, ap, subst}
 use mathlib.Core.Bool.{Bool, true, false, cond, ◌&&◌}
 use mathlib.Core.List.{List, [], ◌∷◌}
 use mathlib.Core.Logic.{◌⊎◌, inl, inr, ⊎_elim}
-use Prim.Native.Nat.{ℕ, zero, suc, ◌+◌, ◌-◌, ◌≤◌, ◌<◌}
+use Prim.Native.Nat.{ℕ, zero, suc, ◌+◌, ◌≤◌, ◌<◌}
 use native.Mathlib.Omega.{arith}
 use lib.Dec.{leb, eqb}
-use lib.ListN.{get_or}
 use native.Mathlib.Nat.{le_antisymm, eq-or-lt_of_le}
-use borrow.Author.Tests.{leb-true, le-leb, lt-leb, eqb-true, eq-eqb}
-use Rattle.common.proofs.Tests.{never, false_unless, and_halves, and_true}
+use borrow.Author.Tests.{leb-true, le-leb, eqb-true}
+use Rattle.common.proofs.Tests.{never, and_halves, and_true}
 use Rattle.calendar.specs.Gregorian.{in_range, last_date}
 use Rattle.calendar.proofs.Laws.Gregorian.{range_facts}
 use Rattle.refusals.specs.declared.Refusal.{Refusal}
@@ -22,7 +21,7 @@ use Rattle.events.specs.declared.limits.Range.{Range}
 use Rattle.events.specs.declared.limits.SecondDate.{SecondDate}
 use Rattle.events.specs.declared.limits.SecondDate.TheVariants.{NoSecond, Dated, NotAfter}
 use Rattle.events.specs.declared.limits.Row.{Row}
-use Rattle.events.specs.Limits.{within, table, no_row, row, row_in, row_of, second_fits, row_fits, row_answer_fits, fields_fit, checked, kinds, unnamed, creditor, debtor, bank, number, cents, rate, mandate_codes, sequence_codes, refund_codes, last_kind, only}
+use Rattle.events.specs.Limits.{within, table, row, row_in, row_of, second_fits, row_fits, row_answer_fits, fields_fit, checked, kinds, unnamed, creditor, debtor, bank, number, cents, rate, mandate_codes, sequence_codes, refund_codes, last_kind, only}
 
 -- ---- ranges
 
@@ -51,23 +50,7 @@ each_case P k i zero l h f = absurd (omega arith)
 each_case P k i (suc n) l h f =
     ⊎_elim (λ e. f.0 (sym e)) (λ g. each_case P k (suc i) n g (omega arith) f.1) (eq-or-lt_of_le l)
 
--- k is none of the numbers below n, as a `match` says it of its last arm
-abbrev pub NoneBelow : ℕ → ℕ → Type 0
-NoneBelow k zero = Unit {0}
-NoneBelow k (suc n) = NoneBelow k n × (k ≡ n → ⊥)
-
-none_below_le : (k n : ℕ) → NoneBelow k n → n ≤ k
-none_below_le k zero f = omega arith
-none_below_le k (suc n) f = let l = none_below_le k n f.0 in let m = f.1 in omega arith
-
-pub last_case : (k n : ℕ) → k < suc n → NoneBelow k n → k ≡ n
-last_case k n h f = let l = none_below_le k n f in omega arith
-
 -- ---- the table
-
--- row k is row i, if k is i
-pub row_at : (i k : ℕ) → i ≡ k → get_or table k no_row ≡ get_or table i no_row
-row_at i k e = ap (λ (j : ℕ). get_or table j no_row) (sym e)
 
 -- whether a row is of a kind and a code
 abbrev pub is_of : ℕ → ℕ → Row → Bool
@@ -114,73 +97,10 @@ pub row_of_codes : (kind code : ℕ) (s : Row) → row_of kind code ≡ Some s �
 unfolding row_of
 row_of_codes kind code s e = within_between _ _ (and_halves (eqb s.kind kind) (row_in_is_of table kind code s e)).1
 
--- rows of known kinds have none of an unknown kind
-row_in_unknown : (rs : List Row) (kind code : ℕ)
-    → every_row (λ r. within kinds r.kind) rs ≡ true
-    → within kinds kind ≡ false
-    → row_in rs kind code ≡ None
-row_in_unknown [] kind code t h = refl
-row_in_unknown (r ∷ rs) kind code t h =
-    let p = and_halves (within kinds r.kind) t in
-    let n : eqb r.kind kind ≡ false =
-    false_unless (eqb r.kind kind) λ q. never p.0 (ap (within kinds) (eqb-true r.kind kind q) ∙ h) in
-    rw n (row_in_unknown rs kind code p.1 h)
-
--- ---- the one row that may be of a kind and a code
-
--- row i is of the kind and the code, or none is
-abbrev pub OnlyAt : ℕ → ℕ → ℕ → Type 0
-OnlyAt kind code i = row_of kind code ≡ row_in (get_or table i no_row ∷ []) kind code
-
-module _ (kind code : ℕ) where
-  pub only_unknown : within kinds kind ≡ false → OnlyAt kind code 0
-  unfolding row_of table
-  only_unknown h = row_in_unknown table kind code refl h ∙ sym (row_in_unknown (get_or table 0 no_row ∷ []) kind code refl h)
-
-  -- creditor and mandate
-  pub only_first : 1 ≤ kind → kind < 3 → OnlyAt kind code (kind - 1)
-  unfolding row_of table
-  only_first l h =
-      each_case (OnlyAt kind code (kind - 1)) kind 1 2 l h (λ is1. rw is1, (λ is2. rw is2, tt))
-
-  -- amend with code 0
-  pub only_bank : eqb kind 3 && eqb code 0 ≡ true → OnlyAt kind code 2
-  unfolding row_of table
-  only_bank t =
-      let p = and_halves (eqb kind 3) t in
-      rw (eqb-true kind 3 p.0, eqb-true code 0 p.1)
-
-  -- where row i is of the kind and the code, it is found
-  pub only_hit : (i : ℕ) (r : Row)
-      → OnlyAt kind code i
-      → r ≡ get_or table i no_row
-      → is_of kind code r ≡ true
-      → row_of kind code ≡ Some r
-  only_hit i r o e t = o ∙ rw (← e, t)
-
-  pub only_miss : (i : ℕ) (r : Row)
-      → OnlyAt kind code i
-      → r ≡ get_or table i no_row
-      → is_of kind code r ≡ false
-      → row_of kind code ≡ None
-  only_miss i r o e t = o ∙ rw (← e, t)
-
-amend_other : (code : ℕ) → (code ≡ 0 → ⊥) → OnlyAt 3 code 3
-unfolding row_of table
-amend_other code n = rw (le-leb 0 code (omega arith), lt-leb code 0 (omega (arith, n)))
-
--- amend with another code, and the kinds behind it
-pub only_rest : (kind code : ℕ)
-    → 3 ≤ kind
-    → kind ≤ last_kind
-    → eqb kind 3 && eqb code 0 ≡ false
-    → OnlyAt kind code kind
-unfolding row_of table
-only_rest kind code l h t =
-    each_case (OnlyAt kind code kind) kind 3 8 l (omega (arith, h)) (
-      λ is3. rw is3 (amend_other code (λ z. never (and_true (eq-eqb kind 3 is3) (eq-eqb code 0 z)) t)),
-      (λ is4. rw is4, (λ is5. rw is5, (λ is6. rw is6, (λ is7. rw is7, (λ is8. rw is8, (λ is9. rw is9, (λ is10. rw is10, tt))))))),
-    )
+-- the first row that passes the test of the code
+pub row_in_find : (rs : List Row) (kind code : ℕ) → find (is_of kind code) rs ≡ row_in rs kind code
+row_in_find [] kind code = refl
+row_in_find (r ∷ rs) kind code = ap (cond (is_of kind code r) (Some r)) (row_in_find rs kind code)
 
 -- ---- refusals 3, 4 and 5
 

@@ -9,10 +9,11 @@ use Prim.Native.Nat.{ℕ, ◌-◌, ◌<◌, ◌≤◌}
 use native.Mathlib.Omega.{arith}
 use borrow.Author.Tests.{le-leb, lt-leb}
 use lib.Dec.{leb}
-use lib.IntN.{ℤ, pos, neg_ℤ, nat_abs, ◌+ℤ◌}
+use lib.IntN.{ℤ, pos, neg_ℤ, nat_abs, ◌+ℤ◌, ◌-ℤ◌}
 use lib.ListN.{length, get_or, set}
 use mir.Syntax.{w64}
-use mir.Val.{SFits}
+use mir.Val.{SFits, to_z, of_z}
+use mir.Facts.{to_z-of_z}
 use Rattle.common.proofs.Tests.{and_halves, and_true}
 use Rattle.positions.specs.declared.PostError.{PostError}
 use Rattle.positions.specs.declared.PostError.TheVariants.{NoEntry, TooLarge}
@@ -22,7 +23,7 @@ use Rattle.positions.specs.Compensation.{amount_limit}
 use Rattle.positions.specs.Limits.{compensation_limit}
 use Rattle.positions.specs.Answers.{capacity, entry_index, sizes_answer, post_sizes, post_answer, transfer_sizes, transfer_answer, after_post, after_transfer, settlement_of, reversed_of, refunded_of}
 use Rattle.positions.proofs.Laws.Integers.{size_add, size_neg, within_size, size_within, size_fits}
-use Rattle.positions.proofs.Laws.Positions.{has_entry_entry, entry_has_entry, entry_posted, position_index, posted_index}
+use Rattle.positions.proofs.Laws.Positions.{has_entry_entry, entry_has_entry, entry_posted, position_index, position_none, posted_index}
 use Rattle.positions.proofs.Laws.Positions.{position_posted_same, transferred_posted, size_posted, size_transferred}
 
 -- ---- the answers of the code's two steps: the index of an entry, and a sum
@@ -59,6 +60,9 @@ module _ (l : List ℤ) (k : ℕ) where
       let i = entry_index_at at p in
       ap (λ (n : ℕ). set l n (get_or l n (pos 0) +ℤ x)) i.1 ∙ sym (posted_index l k x (has_entry_entry l k i.0).low)
 
+-- what `position_of` reads
+pub ruleset position_steps = (position_at, no_entry_index, position_none)
+
 module _ (z x : ℤ) where
   abbrev fit : Bool
   fit = in_limit capacity z && in_limit capacity x
@@ -74,6 +78,10 @@ module _ (z x : ℤ) where
   sum_fits p =
       let h = and_halves (in_limit capacity z) (sizes_fit p) in
       size_fits (z +ℤ x) (omega (arith, size_add z x, within_size capacity z h.0, within_size capacity x h.1))
+
+  -- and give it back
+  pub sum_back : sizes_answer z x ≡ Ok tt → to_z w64 (of_z w64 (z +ℤ x)) ≡ z +ℤ x
+  sum_back p = to_z-of_z (sum_fits p)
 
 -- ---- post
 
@@ -91,22 +99,33 @@ module _ (l : List ℤ) (k : ℕ) (x : ℤ) where
   post_made e s = (rw (e, s), rw (e, s))
 
   -- the same by the code's steps
-  pub post_without : (e : PostError) → entry_index l k ≡ Err e → (Err e ≡ post_answer l k x) × (l ≡ after_post l k x)
-  post_without e p = let n = no_entry_index l k e p in rw n.1 (post_no_entry n.0)
+  pub answer_without : (e : PostError) → entry_index l k ≡ Err e → post_answer l k x ≡ Err e
+  answer_without e p = let n = no_entry_index l k e p in rw n.1 (sym (post_no_entry n.0).0)
 
-  pub post_outside :
-      (at : ℕ) (e : PostError) → entry_index l k ≡ Ok at → sizes_answer (get_or l at (pos 0)) x ≡ Err e
-      → (Err e ≡ post_answer l k x) × (l ≡ after_post l k x)
-  post_outside at e p q =
+  pub table_without : (e : PostError) → entry_index l k ≡ Err e → after_post l k x ≡ l
+  table_without e p = sym (post_no_entry (no_entry_index l k e p).0).1
+
+  pub answer_outside : (at : ℕ) (e : PostError) → entry_index l k ≡ Ok at → sizes_answer (get_or l at (pos 0)) x ≡ Err e → post_answer l k x ≡ Err e
+  answer_outside at e p q =
       let n = sizes_too_large (get_or l at (pos 0)) x e q in
-      rw n.1 (post_too_large (entry_index_at l k at p).0 (rw (position_at l k at p) n.0))
+      rw n.1 (sym (post_too_large (entry_index_at l k at p).0 (rw (position_at l k at p) n.0)).0)
 
-  pub post_stored :
+  pub table_outside : (at : ℕ) (e : PostError) → entry_index l k ≡ Ok at → sizes_answer (get_or l at (pos 0)) x ≡ Err e → after_post l k x ≡ l
+  table_outside at e p q =
+      let n = sizes_too_large (get_or l at (pos 0)) x e q in
+      sym (post_too_large (entry_index_at l k at p).0 (rw (position_at l k at p) n.0)).1
+
+  pub answer_stored : (at : ℕ) → entry_index l k ≡ Ok at → sizes_answer (get_or l at (pos 0)) x ≡ Ok tt → post_answer l k x ≡ Ok tt
+  answer_stored at p q =
+      sym (post_made (entry_index_at l k at p).0 (rw (position_at l k at p) (sizes_fit (get_or l at (pos 0)) x q))).0
+
+  pub table_stored :
       (at : ℕ) → entry_index l k ≡ Ok at → sizes_answer (get_or l at (pos 0)) x ≡ Ok tt
-      → (Ok tt ≡ post_answer l k x) × (set l at (get_or l at (pos 0) +ℤ x) ≡ after_post l k x)
-  post_stored at p q =
-      let made = post_made (entry_index_at l k at p).0 (rw (position_at l k at p) (sizes_fit (get_or l at (pos 0)) x q)) in
-      (made.0, posted_at l k at x p ∙ made.1)
+      → after_post l k x ≡ set l at (get_or l at (pos 0) +ℤ x)
+  table_stored at p q =
+      sym
+      (posted_at l k at x p
+      ∙ (post_made (entry_index_at l k at p).0 (rw (position_at l k at p) (sizes_fit (get_or l at (pos 0)) x q))).1)
 
   -- what a caller shows, and gets
   pub post_fits :
@@ -115,6 +134,9 @@ module _ (l : List ℤ) (k : ℕ) (x : ℤ) where
   post_fits e p h =
       let made = post_made (entry_has_entry l k e) (and_true (size_within capacity (position l k) p) (size_within capacity x h)) in
       (sym made.0, sym made.1)
+
+-- what `post` answers and leaves, by its steps
+pub ruleset post_steps = (answer_without, table_without, answer_outside, table_outside, answer_stored, table_stored, sum_back)
 
 -- ---- transfer
 
@@ -147,14 +169,20 @@ module _ (l : List ℤ) (from to : ℕ) (x : ℤ) where
   transfer_made e s = (rw (e, s), rw (e, s))
 
   -- the same by the code's steps
-  pub transfer_without_from :
-      (e : PostError) → entry_index l from ≡ Err e → (Err e ≡ transfer_answer l from to x) × (l ≡ after_transfer l from to x)
-  transfer_without_from e p = let n = no_entry_index l from e p in rw n.1 (transfer_no_entry (rw n.0))
+  pub transfer_without_from : (e : PostError) → entry_index l from ≡ Err e → transfer_answer l from to x ≡ Err e
+  transfer_without_from e p = let n = no_entry_index l from e p in rw n.1 (sym (transfer_no_entry (rw n.0)).0)
+
+  pub tables_without_from : (e : PostError) → entry_index l from ≡ Err e → after_transfer l from to x ≡ l
+  tables_without_from e p = sym (transfer_no_entry (rw (no_entry_index l from e p).0)).1
 
   pub transfer_without_to :
-      (i : ℕ) (e : PostError) → entry_index l from ≡ Ok i → entry_index l to ≡ Err e
-      → (Err e ≡ transfer_answer l from to x) × (l ≡ after_transfer l from to x)
-  transfer_without_to i e p q = let n = no_entry_index l to e q in rw n.1 (transfer_no_entry (rw ((entry_index_at l from i p).0, n.0)))
+      (i : ℕ) (e : PostError) → entry_index l from ≡ Ok i → entry_index l to ≡ Err e → transfer_answer l from to x ≡ Err e
+  transfer_without_to i e p q =
+      let n = no_entry_index l to e q in
+      rw n.1 (sym (transfer_no_entry (rw ((entry_index_at l from i p).0, n.0))).0)
+
+  pub tables_without_to : (i : ℕ) (e : PostError) → entry_index l from ≡ Ok i → entry_index l to ≡ Err e → after_transfer l from to x ≡ l
+  tables_without_to i e p q = sym (transfer_no_entry (rw ((entry_index_at l from i p).0, (no_entry_index l to e q).0))).1
 
   sizes_small :
       transfer_sizes l from to x ≡ true
@@ -180,27 +208,35 @@ module _ (l : List ℤ) (from to : ℕ) (x : ℤ) where
     both : has_entry l from && has_entry l to ≡ true
     both = and_true (entry_index_at l from i p).0 (entry_index_at l to j q).0
 
-    pub transfer_outside_from :
-        (e : PostError) → sizes_answer (get_or l i (pos 0)) x ≡ Err e
-        → (Err e ≡ transfer_answer l from to x) × (l ≡ after_transfer l from to x)
-    transfer_outside_from e s =
+    from_outside : (e : PostError) → sizes_answer (get_or l i (pos 0)) x ≡ Err e → (Err e ≡ transfer_answer l from to x) × (l ≡ after_transfer l from to x)
+    from_outside e s =
         let n = sizes_too_large (get_or l i (pos 0)) x e s in
         let a = in_limit capacity (get_or l i (pos 0)) in
         rw n.1
         (transfer_too_large both
         (rw (position_at l from i p) (first_large a (in_limit capacity (position l to)) (in_limit capacity x) n.0)))
 
-    pub transfer_outside_to :
-        (e : PostError) → sizes_answer (get_or l j (pos 0)) x ≡ Err e
-        → (Err e ≡ transfer_answer l from to x) × (l ≡ after_transfer l from to x)
-    transfer_outside_to e s =
+    pub transfer_outside_from : (e : PostError) → sizes_answer (get_or l i (pos 0)) x ≡ Err e → transfer_answer l from to x ≡ Err e
+    transfer_outside_from e s = sym (from_outside e s).0
+
+    pub tables_outside_from : (e : PostError) → sizes_answer (get_or l i (pos 0)) x ≡ Err e → after_transfer l from to x ≡ l
+    tables_outside_from e s = sym (from_outside e s).1
+
+    to_outside : (e : PostError) → sizes_answer (get_or l j (pos 0)) x ≡ Err e → (Err e ≡ transfer_answer l from to x) × (l ≡ after_transfer l from to x)
+    to_outside e s =
         let n = sizes_too_large (get_or l j (pos 0)) x e s in
         let b = in_limit capacity (get_or l j (pos 0)) in
         rw n.1
         (transfer_too_large both
         (rw (position_at l to j q) (second_large (in_limit capacity (position l from)) b (in_limit capacity x) n.0)))
 
-    -- what the code stores, first at one index, to m, and then at the other
+    pub transfer_outside_to : (e : PostError) → sizes_answer (get_or l j (pos 0)) x ≡ Err e → transfer_answer l from to x ≡ Err e
+    transfer_outside_to e s = sym (to_outside e s).0
+
+    pub tables_outside_to : (e : PostError) → sizes_answer (get_or l j (pos 0)) x ≡ Err e → after_transfer l from to x ≡ l
+    tables_outside_to e s = sym (to_outside e s).1
+
+    -- what the code stores, first at one index and then at the other
     module _ (s : sizes_answer (get_or l i (pos 0)) x ≡ Ok tt) (t : sizes_answer (get_or l j (pos 0)) x ≡ Ok tt) where
       sizes : transfer_sizes l from to x ≡ true
       sizes =
@@ -208,46 +244,53 @@ module _ (l : List ℤ) (from to : ℕ) (x : ℤ) where
           let g = and_halves (in_limit capacity (get_or l j (pos 0))) (sizes_fit (get_or l j (pos 0)) x t) in
           rw (position_at l from i p, position_at l to j q) (and_true (and_true f.0 g.0) f.1)
 
-      -- 64 bits hold the first new position, and the second after it
-      pub transfer_fits_first : SFits w64 (get_or l i (pos 0) +ℤ neg_ℤ x)
-      transfer_fits_first =
+      -- between the two
+      abbrev half : List ℤ
+      half = set l i (get_or l i (pos 0) +ℤ neg_ℤ x)
+
+      half_posted : half ≡ posted l from (neg_ℤ x)
+      half_posted = posted_at l from i (neg_ℤ x) p
+
+      half_index : entry_index half to ≡ Ok j
+      half_index =
+          let t = entry_index_at l to j q in
+          let e = entry_posted l from to (neg_ℤ x) (has_entry_entry l to t.0) in
+          rw (half_posted, entry_has_entry (posted l from (neg_ℤ x)) to e, t.1)
+
+      half_cell : get_or half j (pos 0) ≡ position (posted l from (neg_ℤ x)) to
+      half_cell = sym (position_at half to j half_index) ∙ ap (λ (n : List ℤ). position n to) half_posted
+
+      -- 64 bits hold the first new position, the cell before the second, and the second
+      pub first_back : to_z w64 (of_z w64 (get_or l i (pos 0) -ℤ x)) ≡ get_or l i (pos 0) -ℤ x
+      first_back =
           let h = sizes_small sizes in
-          size_fits (get_or l i (pos 0) +ℤ neg_ℤ x)
-          (omega (arith, size_add (get_or l i (pos 0)) (neg_ℤ x), size_neg x, ap nat_abs (position_at l from i p)))
+          to_z-of_z
+          (size_fits (get_or l i (pos 0) +ℤ neg_ℤ x)
+          (omega (arith, size_add (get_or l i (pos 0)) (neg_ℤ x), size_neg x, ap nat_abs (position_at l from i p))))
 
-      module _ (m : List ℤ) (stored : m ≡ set l i (get_or l i (pos 0) +ℤ neg_ℤ x)) where
-        first_posted : m ≡ posted l from (neg_ℤ x)
-        first_posted = stored ∙ posted_at l from i (neg_ℤ x) p
+      pub half_back : to_z w64 (of_z w64 (get_or (set l i (get_or l i (pos 0) -ℤ x)) j (pos 0))) ≡ get_or (set l i (get_or l i (pos 0) -ℤ x)) j (pos 0)
+      half_back =
+          let h = sizes_small sizes in
+          to_z-of_z {w = w64}
+          (rw half_cell (size_fits (position (posted l from (neg_ℤ x)) to) (omega (arith, size_posted l from to (neg_ℤ x), size_neg x))))
 
-        second_index : entry_index m to ≡ Ok j
-        second_index =
-            let t = entry_index_at l to j q in
-            let e = entry_posted l from to (neg_ℤ x) (has_entry_entry l to t.0) in
-            rw (first_posted, entry_has_entry (posted l from (neg_ℤ x)) to e, t.1)
+      pub second_fits : SFits w64 (get_or (set l i (get_or l i (pos 0) -ℤ x)) j (pos 0) +ℤ x)
+      second_fits = rw half_cell (held_to (has_entry_entry l to (entry_index_at l to j q).0) sizes)
 
-        pub transfer_held : j < length m
-        transfer_held = index_held m to j second_index
+      pub second_back :
+          to_z w64 (of_z w64 (get_or (set l i (get_or l i (pos 0) -ℤ x)) j (pos 0) +ℤ x)) ≡ get_or (set l i (get_or l i (pos 0) -ℤ x)) j (pos 0) +ℤ x
+      second_back = to_z-of_z second_fits
 
-        -- and the cell between the two
-        pub transfer_cell : SFits w64 (get_or m j (pos 0))
-        transfer_cell =
-            let h = sizes_small sizes in
-            rw (sym (position_at m to j second_index), first_posted)
-            (size_fits (position (posted l from (neg_ℤ x)) to) (omega (arith, size_posted l from to (neg_ℤ x), size_neg x)))
+      pub transfer_stored : transfer_answer l from to x ≡ Ok tt
+      transfer_stored = sym (transfer_made both sizes).0
 
-        pub transfer_fits_second : SFits w64 (get_or m j (pos 0) +ℤ x)
-        transfer_fits_second =
-            rw (sym (position_at m to j second_index), first_posted)
-            (held_to (has_entry_entry l to (entry_index_at l to j q).0) sizes)
-
-        pub transfer_stored : (Ok tt ≡ transfer_answer l from to x) × (set m j (get_or m j (pos 0) +ℤ x) ≡ after_transfer l from to x)
-        transfer_stored = (
-          (transfer_made both sizes).0,
-          posted_at m to j x second_index
-              ∙ ap (λ (n : List ℤ). posted n to x) first_posted
-              ∙ sym (transferred_posted l from to x)
-              ∙ (transfer_made both sizes).1,
-        )
+      pub tables_stored : after_transfer l from to x ≡ set (set l i (get_or l i (pos 0) -ℤ x)) j (get_or (set l i (get_or l i (pos 0) -ℤ x)) j (pos 0) +ℤ x)
+      tables_stored =
+          sym
+          (posted_at half to j x half_index
+          ∙ ap (λ (n : List ℤ). posted n to x) half_posted
+          ∙ sym (transferred_posted l from to x)
+          ∙ (transfer_made both sizes).1)
 
   -- what a caller shows, and gets
   pub transfer_fits :

@@ -12,6 +12,7 @@ use Rattle.common.specs.Tests.{all_of}
 use Rattle.refusals.specs.declared.Refusal.{Refusal}
 use Rattle.refusals.specs.declared.Refusal.TheVariants.{BadField}
 use Rattle.positions.specs.Compensation.{interest, compensation, amount_limit, rate_limit, days_limit, in_limits, compensation_of}
+use Rattle.positions.proofs.Laws.Compensation.{in_limits_parts, interest_fits}
 use Rattle.positions.specs.Products.{rate_days, rate_days_amount, rate_days_checks, rate_days_amount_checks, rate_days_answer, rate_days_amount_answer, product_number, product_value, RateDaysCall, RateDaysAmountCall, cents_of, Products}
 
 -- ---- the products
@@ -25,6 +26,9 @@ rate_days_amount_interest days rate amount =
 pub interest_steps : (days rate amount : ℕ) → rate_days days rate * amount ≡ interest amount rate days
 unfolding rate_days_amount
 interest_steps days rate amount = rate_days_amount_interest days rate amount
+
+-- where the interest fits, and what the code makes it of
+pub ruleset interest_laws = (in_limits_parts, interest_fits, interest_steps)
 
 -- the largest first product
 pub rate_days_most : (days rate : ℕ) → days ≤ days_limit → rate ≤ rate_limit → rate_days days rate ≤ 9989001

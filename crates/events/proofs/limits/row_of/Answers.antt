@@ -1,19 +1,8 @@
--- `row_of` looks at the only row that may be of the kind and the code.
--- Assumes nothing.
-use Rattle.events.proofs.Laws.Limits.{only_hit, only_miss}
-use mathlib.Core.Path.{sym}
+use Rattle.std.proofs.Common.{◌∙◌}
+use Rattle.events.specs.Limits.{row_of, table}
+use Rattle.events.proofs.Laws.Limits.{row_in_find}
 use Rattle.events.proofs.limits.row_of.Goals as goal
 
-pub returns-then-row-kind : goal.returns-then-row-kind
-returns-then-row-kind c =
-    sym
-    (only_hit _ _ _ _ c.place_of.ensures.1
-    c.row_at-row.ensures
-    (rw c.within.ensures at c.if-row-kind.true))
-
 pub returns : goal.returns
-returns c =
-    sym
-    (only_miss _ _ _ _ c.place_of.ensures.1
-    c.row_at-row.ensures
-    (rw c.within.ensures at c.if-row-kind.false))
+unfolding row_of table
+returns c = c.row_in.ensures ∙ row_in_find table c.args.kind c.args.code
