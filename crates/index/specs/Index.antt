@@ -5,21 +5,17 @@
 use Rattle.std.specs.Prelude.{◌≡◌, Bool, cond, List, [], ◌∷◌, ℕ, zero, suc, ◌+◌, ◌-◌, ◌%◌, ◌≤◌, ◌<◌, min, eqb, ltb, get_or, Option, Some, None}
 use Rattle.common.specs.Limits.{collection_row_limit}
 use Rattle.common.specs.Walk.{first_from}
+use Rattle.index.specs.declared.Index.{Index}
 use Rattle.tables.specs.Lookup.{number_at, number_is, existing, MayStart}
 
 -- ---- what stands in an index
 
--- the slots, one cell each
 abbrev pub slots : ℕ
 slots = 4096
 
--- the most rows that an index covers, one cell each: those of the larger table
+-- the most rows that an index covers: those of the larger table
 abbrev pub row_limit : ℕ
 row_limit = collection_row_limit
-
--- and behind them a cell with the rows that are covered
-abbrev pub index_length : ℕ
-index_length = slots + row_limit + 1
 
 abbrev pub slot_of : ℕ → ℕ
 slot_of number = number % slots
@@ -36,15 +32,9 @@ marked None = 0
 unfoldable pub row_from : List ℕ → ℕ → ℕ → ℕ → ℕ
 row_from cells n slot row = marked (first_from (in_slot cells slot) Some None row (n - row))
 
--- behind the slots: for each row the next one of its slot, and last the rows that are covered
-unfoldable pub behind_slots : List ℕ → ℕ → ℕ → ℕ
-behind_slots cells n row =
-    cond (eqb row row_limit) n
-    (cond (ltb row n) (row_from cells n (slot_of (number_at cells row)) (row + 1))
-    0)
-
-unfoldable pub index_cell : List ℕ → ℕ → ℕ → ℕ
-index_cell cells n i = cond (ltb i slots) (row_from cells n i 0) (behind_slots cells n (i - slots))
+-- of the first n rows the next one of a row's slot
+unfoldable pub next_from : List ℕ → ℕ → ℕ → ℕ
+next_from cells n row = cond (ltb row n) (row_from cells n (slot_of (number_at cells row)) (row + 1)) 0
 
 -- f at each of some numbers from i on
 unfoldable pub values_from : (ℕ → ℕ) → ℕ → ℕ → List ℕ
@@ -54,34 +44,33 @@ values_from f i (suc left) = f i ∷ values_from f (i + 1) left
 abbrev pub covered : List ℕ → ℕ → ℕ
 covered cells used = min (existing cells used) row_limit
 
--- the index of a table of which some rows are used
-unfoldable pub index_of : List ℕ → ℕ → List ℕ
-index_of cells used = values_from (index_cell cells (covered cells used)) 0 index_length
+-- the index of a table of which some rows are used: the first row of each slot, for each row the next one, and the rows covered
+unfoldable pub index_of : List ℕ → ℕ → Index
+index_of cells used =
+    let n = covered cells used in
+    record { first = values_from (λ slot. row_from cells n slot 0) 0 slots; next = values_from (next_from cells n) 0 row_limit; covered = n }
 
 -- ---- how it is followed
 
-abbrev pub covered_by : List ℕ → ℕ
-covered_by index = get_or index (slots + row_limit) 0
-
 -- the next row of the slot; no row lies past the limit
-abbrev pub next_row : List ℕ → ℕ → ℕ
-next_row index row = cond (ltb row row_limit) (get_or index (slots + row) 0) 0
+abbrev pub next_row : Index → ℕ → ℕ
+next_row index row = get_or index.next row 0
 
 -- from row k - 1 on, some rows at most: the first that has the number, or the first that is not covered
-unfoldable pub follow : List ℕ → List ℕ → ℕ → ℕ → ℕ → ℕ
-follow index cells number zero k = covered_by index
+unfoldable pub follow : Index → List ℕ → ℕ → ℕ → ℕ → ℕ
+follow index cells number zero k = index.covered
 follow index cells number (suc left) k =
-    cond (eqb k 0) (covered_by index)
+    cond (eqb k 0) index.covered
     (cond (number_is cells number (k - 1)) (k - 1)
     (follow index cells number left (next_row index (k - 1))))
 
-unfoldable pub first_row : List ℕ → List ℕ → ℕ → ℕ
-first_row index cells number = follow index cells number row_limit (get_or index (slot_of number) 0)
+unfoldable pub first_row : Index → List ℕ → ℕ → ℕ
+first_row index cells number = follow index cells number row_limit (get_or index.first (slot_of number) 0)
 
 -- ---- what that gives
 
 -- the index was made of a table whose rows are still there, each with its number
-pub record Indexed (index cells : List ℕ) (used : ℕ) : Type 0 where
+pub record Indexed (index : Index) (cells : List ℕ) (used : ℕ) : Type 0 where
   pub table : List ℕ
   pub rows : ℕ
   pub made : index ≡ index_of table rows
@@ -91,5 +80,5 @@ pub record Indexed (index cells : List ℕ) (used : ℕ) : Type 0 where
 -- a lookup may start at the row that the index gives
 abbrev pub IndexHolds : Type 0
 IndexHolds =
-    (index cells : List ℕ) (used number : ℕ) → Indexed index cells used
+    (index : Index) (cells : List ℕ) (used number : ℕ) → Indexed index cells used
     → MayStart cells used number (first_row index cells number)

@@ -9,31 +9,32 @@ use Prim.Native.Nat.{ℕ, zero, suc, ◌+◌, ◌-◌, ◌≤◌, ◌<◌}
 use native.Mathlib.Nat.{eq-or-lt_of_le, le_of_suc-le-suc}
 use native.Mathlib.Numerals.{add-one}
 use native.Mathlib.Omega.{arith}
-use borrow.Author.Tests.{lt-ltb, ltb-true, ltb-false, eqb-true, eqb-false, eq-eqb, ne_eqb}
+use borrow.Author.Tests.{ltb-true, ltb-false, eqb-true, eqb-false, eq-eqb, ne_eqb}
 use lib.Dec.{ltb}
 use lib.ListN.{get_or}
 use Rattle.common.proofs.Tests.{true_or_false}
 use Rattle.common.proofs.Walk.{cases_from}
 use Rattle.tables.specs.Lookup.{number_at, number_is}
 use Rattle.tables.proofs.Laws.Lookup.{Grown, lookup_since_lem}
-use Rattle.index.specs.Index.{row_limit, slot_of, in_slot, marked, row_from, covered, index_of, covered_by, next_row, follow, first_row, Indexed, IndexHolds}
+use Rattle.index.specs.Index.{row_limit, slot_of, in_slot, marked, row_from, covered, index_of, next_row, follow, first_row, Indexed, IndexHolds}
+use Rattle.index.specs.declared.Index.{Index}
 use Rattle.index.proofs.Laws.Making.{index_slot, index_row, index_covered}
 
 -- ---- the steps of a loop that follows
 
-module _ (index cells : List ℕ) (number : ℕ) where
-  pub follow_start : (k : ℕ) → k ≡ get_or index (slot_of number) 0 → first_row index cells number ≡ follow index cells number row_limit k
+module _ (index : Index) (cells : List ℕ) (number : ℕ) where
+  pub follow_start : (k : ℕ) → k ≡ get_or index.first (slot_of number) 0 → first_row index cells number ≡ follow index cells number row_limit k
   unfolding first_row
   follow_start k e = rw e
 
   -- no row is left
-  pub follow_none : (left : ℕ) → follow index cells number left 0 ≡ covered_by index
+  pub follow_none : (left : ℕ) → follow index cells number left 0 ≡ index.covered
   unfolding follow
   follow_none zero = refl
   follow_none (suc left) = refl
 
   -- no turn is left
-  pub follow_end : (k : ℕ) → follow index cells number 0 k ≡ covered_by index
+  pub follow_end : (k : ℕ) → follow index cells number 0 k ≡ index.covered
   unfolding follow
   follow_end k = refl
 
@@ -65,7 +66,7 @@ module _ (table cells : List ℕ) (rows number : ℕ)
   abbrev n : ℕ
   n = covered table rows
 
-  abbrev index : List ℕ
+  abbrev index : Index
   index = index_of table rows
 
   -- a row of another slot has another number
@@ -81,7 +82,7 @@ module _ (table cells : List ℕ) (rows number : ℕ)
   none_up i q h below between j b =
       ⊎_elim (λ e. below j (ltb-true j i e)) (λ e. other_slot j (omega arith) (between j (ltb-false j i e) b)) (true_or_false (ltb j i))
 
-  none_left : (i : ℕ) → n ≤ i → ((j : ℕ) → j < i → number_is cells number j ≡ false) → Passed cells number n (covered_by index)
+  none_left : (i : ℕ) → n ≤ i → ((j : ℕ) → j < i → number_is cells number j ≡ false) → Passed cells number n index.covered
   none_left i h below =
       rw (index_covered table rows) (record { inside = omega arith; none = λ j b. below j (omega arith) })
 
@@ -121,7 +122,7 @@ module _ (table cells : List ℕ) (rows number : ℕ)
 
       next_is : (q : ℕ) → q < n → in_slot table (slot_of number) q ≡ true → next_row index q ≡ row_from table n (slot_of number) (q + 1)
       next_is q b own =
-          rw (lt-ltb q row_limit (omega arith)) (index_row table rows q b)
+          index_row table rows q b
           ∙ ap (λ (s : ℕ). row_from table n s (q + 1)) (eqb-true (slot_of (number_at table q)) (slot_of number) own)
 
   pub first_passed : Passed cells number n (first_row index cells number)
@@ -142,7 +143,7 @@ pub indexed_made : (cells : List ℕ) (used : ℕ) → Indexed (index_of cells u
 indexed_made cells used =
     record { table = cells; rows = used; made = refl; there = omega arith; same = λ row h. refl }
 
-pub indexed_kept : (index cells cells' : List ℕ) (used used' : ℕ) → Indexed index cells used → Grown cells used cells' used' → Indexed index cells' used'
+pub indexed_kept : (index : Index) (cells cells' : List ℕ) (used used' : ℕ) → Indexed index cells used → Grown cells used cells' used' → Indexed index cells' used'
 indexed_kept index cells cells' used used' d g =
     record {
       table = d.table;
