@@ -13,7 +13,7 @@ ghost use Rattle.text.specs.Text.{WhenKnown, Sound, LineTaken, AnswerRoom, LineA
 use book::acting::{act, find_collection, find_mandate};
 use events::Event;
 use fitness::fitness::is_fit;
-use index::{INDEX, first_row, index_rows};
+use index::Index;
 use lines::line::{COLUMNS, read};
 use refusals::{Refusal, answer_number};
 use report::cut::line_end;
@@ -27,8 +27,8 @@ const CLIPPED: usize = COLUMNS + 2;
 // The index of each table, made once for a piece on memory that is safe.
 #[derive(Clone, Copy)]
 struct Indexes {
-    mandates: [u16; INDEX],
-    collections: [u16; INDEX],
+    mandates: Index,
+    collections: Index,
 }
 
 // The lines answered and the bytes written so far.
@@ -60,8 +60,8 @@ fn index_tables(book: &BookMut) -> Indexes
     ensures collections { result.collections ≡ index_of book.now.collections.now book.now.header.collections }
 {
     Indexes {
-        mandates: index_rows(book.mandates, book.header.mandates),
-        collections: index_rows(book.collections, book.header.collections),
+        mandates: Index::of(book.mandates, book.header.mandates),
+        collections: Index::of(book.collections, book.header.collections),
     }
 }
 
@@ -71,7 +71,7 @@ fn mandate_since(known: Option<&Indexes>, book: &BookMut, e: Event) -> usize
     ensures { MayStart book.now.mandates.now book.now.header.mandates e.mandate result }
 {
     match known {
-        Some(made) if e.kind <= 5 => first_row(&made.mandates, book.mandates, e.mandate),
+        Some(made) if e.kind <= 5 => made.mandates.first_row(book.mandates, e.mandate),
         _ => 0,
     }
 }
@@ -82,7 +82,7 @@ fn collection_since(known: Option<&Indexes>, book: &BookMut, e: Event) -> usize
     ensures { MayStart book.now.collections.now book.now.header.collections e.a result }
 {
     match known {
-        Some(made) if 5 <= e.kind => first_row(&made.collections, book.collections, e.a),
+        Some(made) if 5 <= e.kind => made.collections.first_row(book.collections, e.a),
         _ => 0,
     }
 }

@@ -14,7 +14,7 @@ take_lines-done-requires c =
     let l = ledger_in c.args.book.now in
     let tested : WhenKnown c.if-safe.known l =
     elim c.if-safe.branch [
-      then-safe w ↦
+      | then-safe w ↦
           let prepared : Prepared c.index_tables-indexes.result l = record {
             safe = safe_facts _ (sym (c.is_safe-safe.ensures ∙ ap is_safe c.view.ensures) ∙ w.if-safe.true);
             mandates = rw c.index_tables-indexes.ensures.mandates (indexed_made _ _);
