@@ -7,6 +7,7 @@ use model::{Action, Change, Presentation, Treatment, Way};
 use tables::{Mandate, Standing};
 
 // The mandate that event 2 adds: FRST is due if it is recurrent.
+#[tactic(auto, unfolding(model::specs::Actions::new_mandate))]
 fn new_mandate(e: Event) -> Mandate
     ensures { result ≡ new_mandate e }
 {
@@ -28,9 +29,10 @@ fn amendment_of(e: Event) -> Change
     ensures { result ≡ amendment e }
 {
     if e.code == 0 {
-        return Change::NewBank(e.c);
+        Change::NewBank(e.c)
+    } else {
+        Change::NewCreditor(e.a)
     }
-    Change::NewCreditor(e.a)
 }
 
 // What event 5 presents.
@@ -47,11 +49,11 @@ fn presentation_of(e: Event) -> Presentation
 }
 
 // What an event asks for.
+#[tactic(auto, unfolding(model::specs::Actions::action_of))]
 pub fn action_of(e: Event) -> Action
     ensures { result ≡ action_of e }
 {
-    let kind = e.kind;
-    match kind {
+    match e.kind {
         1 => Action::AddCreditor(e.a, e.b),
         2 => Action::AddMandate(new_mandate(e)),
         3 => Action::ChangeMandate(e.mandate, amendment_of(e)),

@@ -2,17 +2,17 @@
 // 17: specs/Order. A new refusal is one field of `Tests` and one line of `first_failing` and of its definition.
 #![tactic(auto)]
 
-ghost use Rattle.std.specs.Prelude.{◌≡◌, cond};
+ghost use Rattle.std.specs.Prelude.{◌≡◌};
 ghost use Rattle.checking.specs.Order.{none_fails, first_failing};
-ghost use Rattle.checking.specs.Calls.{is_found, used_row, found_row};
+ghost use Rattle.checking.specs.Calls.{used_row, found_row};
 
 pub mod actions;
 
-use refusals::Refusal;
+use refusals::{Refusal, ensure};
 use tables::lookup::existing_of;
 
 // Whether each test is passed, in checking order.
-#[derive(Clone, Copy)]
+#[derive(Clone, Copy, Debug, PartialEq, Eq)]
 pub struct Tests {
     pub order: bool,
     pub day: bool,
@@ -48,59 +48,34 @@ pub fn none_fails() -> Tests
     }
 }
 
-// What comes of one test: the rest where it is passed, else its refusal.
-fn checked(passed: bool, refusal: Refusal, rest: Result<(), Refusal>) -> Result<(), Refusal>
-    ensures { result ≡ cond passed rest (Err refusal) }
-{
-    if passed {
-        return rest;
-    }
-    Err(refusal)
-}
-
-// The answer of the first test that fails, or acceptance. From the last test, 17, to the first, 6.
+// The answer of the first test that fails, or acceptance.
 pub fn first_failing(t: Tests) -> Result<(), Refusal>
     ensures { result ≡ first_failing t }
 {
-    let r = checked(t.last, Refusal::AfterLastDay, Ok(()));
-    let r = checked(t.due, Refusal::BeforeDue, r);
-    let r = checked(t.state, Refusal::WrongState, r);
-    let r = checked(t.lapse, Refusal::Lapsed, r);
-    let r = checked(t.time, Refusal::BadTiming, r);
-    let r = checked(t.sequence, Refusal::WrongSequence, r);
-    let r = checked(t.live, Refusal::NotLive, r);
-    let r = checked(t.room, Refusal::NoRowLeft, r);
-    let r = checked(t.there, Refusal::DoesNotExist, r);
-    let r = checked(t.new, Refusal::AlreadyExists, r);
-    let r = checked(t.day, Refusal::NotBusinessDay, r);
-    checked(t.order, Refusal::BeforeLatest, r)
-}
-
-pub fn is_found(found: Option<usize>) -> bool
-    ensures { result ≡ is_found found }
-{
-    match found {
-        Some(_) => true,
-        None => false,
-    }
+    ensure(t.order, Refusal::BeforeLatest)?;
+    ensure(t.day, Refusal::NotBusinessDay)?;
+    ensure(t.new, Refusal::AlreadyExists)?;
+    ensure(t.there, Refusal::DoesNotExist)?;
+    ensure(t.room, Refusal::NoRowLeft)?;
+    ensure(t.live, Refusal::NotLive)?;
+    ensure(t.sequence, Refusal::WrongSequence)?;
+    ensure(t.time, Refusal::BadTiming)?;
+    ensure(t.lapse, Refusal::Lapsed)?;
+    ensure(t.state, Refusal::WrongState)?;
+    ensure(t.due, Refusal::BeforeDue)?;
+    ensure(t.last, Refusal::AfterLastDay)
 }
 
 // Whether a row was found that is one of the used rows that there are.
 pub fn is_used(found: Option<usize>, cells: &[u64], used: usize) -> bool
     ensures { result ≡ used_row cells.now used found }
 {
-    match found {
-        Some(row) => row < existing_of(cells, used),
-        None => false,
-    }
+    found.is_some_and(|row| row < existing_of(cells, used))
 }
 
 // The row that was found; the first where none was.
 pub fn found_row(found: Option<usize>) -> usize
     ensures { result ≡ found_row found }
 {
-    match found {
-        Some(row) => row,
-        None => 0,
-    }
+    found.unwrap_or(0)
 }
