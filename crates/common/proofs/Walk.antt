@@ -1,6 +1,6 @@
--- Laws of specs/Walk. Names: F-hit, F-miss, F-end are the steps of a loop that walks from i up to n; F-same: two tests that
--- agree give one answer. To cite besides: `all_from_at`, `all_from_made`, and `first_from_cases`, from any number on
--- `cases_from`, from which all else of a search follows. Assumes nothing.
+-- Laws of specs/Walk. Names: F_hit, F_miss, F_end are the steps of a loop that walks from i up to n; F_same: two tests that
+-- agree give one answer. To cite besides: `all_from_at`, `all_from_made`, `first_from_cases`, from any number on
+-- `cases_from`, from which all else of a search follows, and `all_of_range`, `all_of_list`, `all_of_zip` for an iterator's `all`. Assumes nothing.
 use mathlib.Core.Path.{◌≡◌, refl, subst}
 use mathlib.Core.Bool.{Bool, true, false, cond}
 use mathlib.Core.Logic.{⊎_elim}
@@ -24,19 +24,6 @@ pub all_left : (n : ℕ) → n - 0 ≡ n
 all_left n = omega arith
 
 -- ---- all_from
-
-module _ (t : ℕ → Bool) (i n : ℕ) where
-  pub all_from_miss : i < n → t i ≡ false → all_from t i (n - i) ≡ false
-  unfolding all_from
-  all_from_miss h e = rw (one_more i n h, e)
-
-  pub all_from_hit : i < n → t i ≡ true → all_from t i (n - i) ≡ all_from t (i + 1) (n - (i + 1))
-  unfolding all_from
-  all_from_hit h e = rw (one_more i n h, e)
-
-  pub all_from_end : n ≤ i → all_from t i (n - i) ≡ true
-  unfolding all_from
-  all_from_end h = rw (none_left i n h)
 
 all_from_from : (t : ℕ → Bool) (i left k : ℕ) → all_from t i left ≡ true → i ≤ k → k < i + left → t k ≡ true
 unfolding all_from

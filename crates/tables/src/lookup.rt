@@ -31,14 +31,14 @@ fn skip(cells: &[u64], from: usize, n: usize, number: u64) -> usize
     requires { (from ≤ n) × (n ≤ rows cells.now) }
     ensures { first_from (number_is cells.now number) Some None result (n - result) ≡ first_from (number_is cells.now number) Some None from (n - from) }
 {
-    let mut i = from;
-    while 8 <= n - i {
-        if in_four(cells, i, number) | in_four(cells, i + 4, number) {
-            return i;
+    let turns = (n - from) / 8;
+    for turn in 0..turns {
+        let row = from + 8 * turn;
+        if in_four(cells, row, number) | in_four(cells, row + 4, number) {
+            return row;
         }
-        i += 8;
     }
-    i
+    from + 8 * turns
 }
 
 // The lowest row of the number from a row on, below n.

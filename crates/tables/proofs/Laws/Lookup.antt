@@ -148,9 +148,6 @@ module _ (cells : List ℕ) (number : ℕ) where
   abbrev four_have : ℕ → Bool
   four_have row = ((number_is cells number row || number_is cells number (row + 1)) || number_is cells number (row + 2)) || number_is cells number (row + 3)
 
-  pub four_have_lem : (row : ℕ) → any_of (four_tests row) ≡ four_have row
-  four_have_lem row = rw (place row 1, place row 2, place row 3)
-
   pub four_miss : (row : ℕ) (r : Bool) → r ≡ four_have row → r ≡ false → (k : ℕ) → k < 4 → number_is cells number (row + k) ≡ false
   four_miss row r p e zero h = rw (add-zero row) (any_of_at (four_rows row) 0 (sym p ∙ e))
   four_miss row r p e (suc zero) h = any_of_at (four_rows row) 1 (sym p ∙ e)

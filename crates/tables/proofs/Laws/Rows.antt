@@ -1,5 +1,5 @@
 -- Laws of specs/Rows, over the width w, the table and the fields. Names: F-put-same and F-put-other read the row that was
--- written and another one. To cite: `row_at_put_same`, `row_at_put_other`, `row_at_cell`, `row_at_part`, `length_put`, `rows_put`,
+-- written and another one. To cite: `row_at_put_same`, `row_at_put_other`, `row_at_cell`, `length_put`, `rows_put`,
 -- `put_nowhere`; of cells `cell_put_before`, `cell_put_after`, `cell_put_unused` (no cell of an unused row is written); for
 -- the two tables `mandate_at_put_same`, `mandate_at_put_other`, `collection_at_put_same`, `collection_at_put_other`.
 -- Assumes nothing.
@@ -45,21 +45,6 @@ sets_in (v ∷ vs) l i (suc n) h r =
     let e : i + suc n ≡ suc i + n = omega arith in
     rw e (sets_in vs (set l i v) (suc i) n (omega arith) (rw length-set (omega arith)))
 
--- the stores one by one: what is left to store from k on
-module _ (cells fields : List ℕ) (b : ℕ) where
-  pub sets_start : sets cells (b + 0) (drop 0 fields) ≡ sets cells b fields
-  sets_start = rw (add-zero b)
-
-  pub sets_step :
-      (k : ℕ) → k < length fields
-      → sets (set cells (b + k) (get_or fields k 0)) (b + (k + 1)) (drop (k + 1) fields) ≡ sets cells (b + k) (drop k fields)
-  sets_step k h =
-      let e : b + (k + 1) ≡ suc (b + k) = omega arith in
-      rw (e, add-one k, drop-cons fields k 0)
-
-  pub sets_end : (k : ℕ) → length fields ≤ k → sets cells (b + k) (drop k fields) ≡ cells
-  sets_end k h = rw (drop_of_length-le fields h)
-
 -- ---- row_at
 
 cells_from_at : (cells : List ℕ) (b k n j : ℕ) → j < n → get_or (cells_from cells b k n) j 0 ≡ get_or cells (b + (k + j)) 0
@@ -99,23 +84,6 @@ pub row_room : (w : ℕ) (cells : List ℕ) (row : ℕ) → 0 < w → row < rows
 row_room w cells row p h =
     let l : suc row * w ≤ length cells = (le-div_iff_mul-le p).0 h in
     rw suc-mul at l
-
--- a row as a part of the table
-pub row_at_part :
-    (w : ℕ) (cells : List ℕ) (row : ℕ) → 0 < w → row < rows_of w cells
-    → take (row * w + w - row * w) (drop (row * w) cells) ≡ row_at w cells row
-row_at_part w cells row p h =
-    let e : row * w + w - row * w ≡ w = omega arith in
-    let room = row_room w cells row p h in
-    let left = length-drop (row * w) cells in
-    rw e
-    (row_equal w (take w (drop (row * w) cells)) (row_at w cells row)
-    (length-take w (drop (row * w) cells) ∙ omega arith)
-    (row_at_length w cells row)
-    (λ k l.
-    get_or-take w (drop (row * w) cells) k 0 l
-    ∙ get_or-drop (row * w) cells k 0
-    ∙ sym (row_at_cell w cells row k l)))
 
 -- ---- put_row
 

@@ -1,18 +1,25 @@
--- `tables::lookup::skip` meets its contract. The loop: the walk from row i on has the answer of the walk from the first row on.
--- Assumes nothing.
+-- `tables::lookup::skip` meets its contract. The loop: the walk from the turn's row on has the answer of the walk from the first row
+-- on. Assumes nothing.
+use Rattle.std.proofs.Common.{◌≡◌, ℕ, ◌+◌, ◌*◌, ◌-◌, Option, None, Some, arith, refl, sym, ap, ◌∙◌}
+use Rattle.common.specs.Walk.{first_from}
+use Rattle.tables.specs.Lookup.{number_is}
 use Rattle.tables.proofs.Laws.Lookup.{four_miss, walk_past_eight}
-use mathlib.Core.Path.{sym, ◌∙◌}
-use borrow.Author.Rules.{rules}
 use Rattle.tables.proofs.lookup.skip.Goals as goal
 
-pub loop-i-preserved : goal.loop-i-preserved
-loop-i-preserved c =
-    let l = c in
-    let a = l.args in (
-      search rules,
-      sym
-          (walk_past_eight a.cells.now a.number _ _ l.loop-i.i a.n (search rules) c.if-in_four.false
-          (four_miss a.cells.now a.number _ _ c.in_four.ensures)
-          (four_miss a.cells.now a.number _ _ c.in_four-in-loop-i.ensures))
-          ∙ l.loop-i.invariant.1,
-    )
+pub loop-turn-init : goal.loop-turn-init
+loop-turn-init c =
+    let a = c.args in
+    let here : a.from + 8 * 0 ≡ a.from = omega arith in
+    ap (λ (row : ℕ). first_from (number_is a.cells.now a.number) Some None row (a.n - row)) here
+
+pub loop-turn-preserved : goal.loop-turn-preserved
+loop-turn-preserved c =
+    let a = c.args in
+    let row = a.from + 8 * c.loop-turn.turn in
+    let next : row + 8 ≡ a.from + 8 * (c.loop-turn.turn + 1) = omega arith in
+    ap (λ (at : ℕ). first_from (number_is a.cells.now a.number) Some None at (a.n - at)) (sym next)
+    ∙ sym
+    (walk_past_eight a.cells.now a.number _ _ row a.n (omega (arith, c.requires.0)) c.if-in_four.false
+    (four_miss a.cells.now a.number _ _ c.in_four.ensures)
+    (four_miss a.cells.now a.number _ _ c.in_four-in-loop-turn.ensures))
+    ∙ c.loop-turn.invariant

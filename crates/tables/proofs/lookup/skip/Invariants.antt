@@ -1,12 +1,7 @@
-use Rattle.std.proofs.Common.{None, Some}
+use Rattle.std.proofs.Common.{◌≡◌, ◌+◌, ◌*◌, ◌-◌, None, Some}
 use Rattle.tables.specs.Lookup.{number_is}
 use Rattle.common.specs.Walk.{first_from}
-use mathlib.Core.Path.{◌≡◌}
-use Prim.Native.Nat.{◌≤◌, ◌-◌}
 use Rattle.tables.proofs.lookup.skip.Given as goal
 
-abbrev pub invariant-loop-i : goal.invariant-loop-i
-invariant-loop-i l = (l.i ≤ l.n) × (first_from (number_is l.cells l.number) Some None l.i (l.n - l.i) ≡ first_from (number_is l.cells l.number) Some None l.from (l.n - l.from))
-
-abbrev pub decreases-loop-i : goal.decreases-loop-i
-decreases-loop-i l = l.n - l.i
+abbrev pub invariant-loop-turn : goal.invariant-loop-turn
+invariant-loop-turn l = first_from (number_is l.cells l.number) Some None (l.from + 8 * l.turn) (l.n - (l.from + 8 * l.turn)) ≡ first_from (number_is l.cells l.number) Some None l.from (l.n - l.from)
