@@ -203,7 +203,12 @@ pub fn is_fit(book: &BookRef) -> bool
     }
     let header = book.header;
     mandates_fit(book.creditors, book.mandates, header.mandates)
-        & collections_fit(header.latest, book.creditors, book.collections, header.collections)
+        & collections_fit(
+            header.latest,
+            book.creditors,
+            book.collections,
+            header.collections,
+        )
         & creditors_fit(book.creditors, book.creditor_positions)
         & positions_fit(book.debtor_positions)
         & positions_fit(book.bank_positions)

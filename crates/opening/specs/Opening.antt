@@ -1,7 +1,7 @@
 -- Document 01, "Records": "Opening makes a ledger with no rows and all positions 0." Row counts and table
 -- sizes are all that it judges: unfit ones get 2, fit ones never. It writes no cell of a row.
 -- To cite: proofs/Laws/Opening. Assumes nothing.
-use Rattle.std.specs.Prelude.{cond, ℕ, pos, replicate, Result, Ok, Err}
+use Rattle.std.specs.Prelude.{cond, ℕ, pos, replicate, Result}
 use Rattle.refusals.specs.declared.Refusal.{Refusal}
 use Rattle.refusals.specs.Refusals.{number_of, answer_number}
 use Rattle.refusals.specs.declared.Refusal.TheVariants.{UnfitMemory}

@@ -1,6 +1,6 @@
 -- Replay: a lent list of events, nine cells an event in the order of its fields, given one after the other to a ledger
 -- that was opened first. What is promised of every list is promised of it. Assumes nothing.
-use Rattle.std.specs.Prelude.{◌≡◌, true, cond, List, [], ◌∷◌, ◌++◌, ℕ, zero, suc, ◌+◌, ◌*◌, ◌/◌, length, take, drop, Result}
+use Rattle.std.specs.Prelude.{◌≡◌, true, cond, List, [], ◌∷◌, ◌++◌, ℕ, zero, suc, ◌*◌, ◌/◌, length, take, drop, Result}
 use Rattle.refusals.specs.Refusals.{number_of}
 use Rattle.refusals.specs.declared.Refusal.TheVariants.{UnfitMemory}
 use Rattle.refusals.specs.declared.Refusal.{Refusal}

@@ -60,13 +60,7 @@ fn write(book: &mut BookMut, date: u64, row: usize, k: Collection, p: Postings)
 }
 
 // Writes and posts, or refuses amounts that cannot be posted.
-fn pay(
-    book: &mut BookMut,
-    date: u64,
-    row: usize,
-    k: Collection,
-    p: Postings,
-) -> Result<(), Refusal>
+fn pay(book: &mut BookMut, date: u64, row: usize, k: Collection, p: Postings) -> Result<(), Refusal>
     ensures loans { SameLoans book.old book.new }
     ensures done { Done (pay_answer k p (ledger_in book.old)) (ledger_in book.old) (pay_effect row date k p (ledger_in book.old)) result (ledger_in book.new) }
 {

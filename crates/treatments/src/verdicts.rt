@@ -10,8 +10,8 @@ use calendar::target::is_business_day;
 use checking::{first_failing, none_fails};
 use deadlines::undoings::is_in_time;
 use model::{Treatment, Way};
-use positions::amounts::settlement;
 use positions::Postings;
+use positions::amounts::settlement;
 use refusals::Refusal;
 use tables::{Collection, State, Undoing};
 
@@ -116,7 +116,13 @@ fn treated(t: Treatment, date: u64, k: Collection) -> Collection
 }
 
 // Refusals 6 to 16, of the collection in the row that was found.
-fn judge_first(latest: u64, date: u64, t: Treatment, there: bool, k: Collection) -> Result<(), Refusal>
+fn judge_first(
+    latest: u64,
+    date: u64,
+    t: Treatment,
+    there: bool,
+    k: Collection,
+) -> Result<(), Refusal>
     ensures { result ≡ judged (first_checks latest date t there k) (Ok tt) }
 {
     let mut tests = none_fails();

@@ -11,7 +11,6 @@ use Rattle.events.specs.declared.Event.{Event}
 use Rattle.events.specs.Limits.{checked}
 use Rattle.events.proofs.Laws.Limits.{checked_facts, creditor_facts, refund_facts, kind_cases}
 use Rattle.positions.specs.Compensation.{rate_limit}
-use Rattle.tables.specs.declared.Header.{Header}
 use Rattle.tables.specs.Ledger.{Ledger}
 use Rattle.tables.specs.Lookup.{lookup, lookup_since, MayStart}
 use Rattle.fitness.specs.Fitness.{fit}

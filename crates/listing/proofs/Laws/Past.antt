@@ -1,5 +1,5 @@
--- Laws of specs/Past: the lines of a text counted byte by byte. To cite: `Counted` with `count_start`, `count_step`, `count_end`; `few_bytes`,
--- `few_lines`, `lines_over`; `past_next`; `past_holds`. Assumes nothing.
+-- Laws of specs/Past: the lines of a text counted byte by byte. To cite: `Counted` with `count_start`, `count_step`, `count_end`; `few_bytes`;
+-- `past_next`; `past_holds`. Assumes nothing.
 use mathlib.Core.Path.{◌≡◌, refl, sym, ap, ◌∙◌}
 use mathlib.Core.Bool.{Bool, true, false, cond, ◌&&◌, ◌||◌}
 use mathlib.Core.List.{List, [], ◌∷◌, ◌++◌}
@@ -116,13 +116,6 @@ past_is n text = length-drop (last_number - n) (lines_from [] text)
 module _ (n : ℕ) (text : List ℕ) (left : ℕ) (e : left ≡ last_number - n) where
   pub few_bytes : length text ≤ left → 0 ≡ lines_past n text
   few_bytes h = omega (arith, e, past_is n text, count_short text)
-
-  module _ (count : ℕ) (c : count ≡ line_count text) where
-    pub few_lines : count ≤ left → 0 ≡ lines_past n text
-    few_lines h = omega (arith, e, c, past_is n text)
-
-    pub lines_over : left < count → count - left ≡ lines_past n text
-    lines_over h = ap (λ (k : ℕ). k - left) c ∙ ap (λ (k : ℕ). line_count text - k) e ∙ sym (past_is n text)
 
 -- ---- an input in two parts: all lines of the first are answered, and the second comes behind its partial line
 

@@ -1,15 +1,12 @@
 -- Laws of specs/Opening: what is answered, and that an opened ledger is fit. To cite: `opening_done`, `opening_refused`,
 -- `opened_fit`, `opened_mandates`, `opened_collections`. Assumes nothing.
-use mathlib.Core.Path.{◌≡◌, refl, sym, ◌∙◌, ap}
+use mathlib.Core.Path.{◌≡◌, refl, ◌∙◌, ap}
 use mathlib.Core.Bool.{true, false}
 use mathlib.Core.List.{List}
 use mathlib.Core.Logic.{⊎_elim}
-use Prim.Native.Nat.{ℕ, ◌+◌, ◌<◌}
+use Prim.Native.Nat.{ℕ, ◌<◌}
 use native.Mathlib.Omega.{arith}
-use borrow.Author.Tests.{eqb-true, eqb-false}
-use lib.Dec.{eqb}
-use lib.ListN.{length, get_or, set, replicate, length-replicate, get_or-replicate}
-use lib.Seq.{get_or-set_same, get_or-set_other, ext_get_or}
+use lib.ListN.{length, replicate, length-replicate, get_or-replicate}
 use lib.IntN.{ℤ, pos}
 use Rattle.common.proofs.Tests.{true_or_false}
 use Rattle.tables.specs.Limits.{creditor_count, debtor_count, bank_count}

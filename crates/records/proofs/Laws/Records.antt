@@ -1,26 +1,21 @@
--- Laws of specs/Records: what an accepted event passed, the records that it writes, and that answers and effects are the model's
--- where the rows are those of the numbers. To cite: `creditor_number`, `mandate_room`, `collect_room`; `presented_on_made`,
--- `new_collection_made`; `creditor_ruled`, `mandate_ruled`, `change_ruled`, `collect_ruled`. Assumes nothing.
+-- Laws of specs/Records: what a verdict on a collect says, and that answers and effects are the model's where the rows are those of
+-- the numbers. To cite: `verdict_go`, `collected_refused`, `collected_done`; `creditor_ruled`, `mandate_ruled`, `change_ruled`,
+-- `collect_ruled`. Assumes nothing.
 use Rattle.std.proofs.Common.{Err, None, Ok, Option, Result, Some, ℕ}
 use mathlib.Core.Path.{◌≡◌, refl, sym}
-use mathlib.Core.Bool.{false, true, Bool, not, ◌&&◌}
+use mathlib.Core.Bool.{false, true}
 use mathlib.Core.List.{List}
-use Prim.Native.Nat.{ℕ, ◌≤◌, ◌<◌}
-use borrow.Author.Tests.{le-leb, leb-true, ltb-true, lt-ltb}
-use lib.Dec.{eqb, ltb, leb}
+use Prim.Native.Nat.{ℕ, ◌≤◌}
+use borrow.Author.Tests.{le-leb, lt-ltb}
+use lib.Dec.{ltb}
 use native.Mathlib.Omega.{arith}
 use lib.ListN.{length}
-use Rattle.common.specs.Checks.{judged}
-use Rattle.common.proofs.Tests.{never, and_halves}
+use Rattle.common.proofs.Tests.{never}
 use Rattle.refusals.specs.declared.Refusal.{Refusal}
 use Rattle.tables.specs.declared.Mandate.{Mandate}
-use Rattle.tables.specs.declared.Collection.{Collection}
-use Rattle.tables.specs.declared.Standing.{Standing}
-use Rattle.tables.specs.declared.State.TheVariants.{Presented}
-use Rattle.tables.specs.Ledger.{Ledger, bank_of}
+use Rattle.tables.specs.Ledger.{Ledger}
 use Rattle.tables.specs.Lookup.{existing, lookup}
 use Rattle.tables.proofs.Laws.Lookup.{lookup_at}
-use Rattle.tables.specs.Records.{remade}
 use Rattle.tables.specs.Rows.{rows, mandate_at, collection_at}
 use Rattle.model.specs.declared.Action.TheVariants.{AddCreditor, AddMandate, ChangeMandate, Collect}
 use Rattle.model.specs.declared.Change.{Change}
@@ -28,31 +23,12 @@ use Rattle.model.specs.declared.Presentation.{Presentation}
 use Rattle.model.specs.Deadlines.{kept_due}
 use Rattle.model.specs.Lookups.{is_known, in_row, mandate_of, collection_of}
 use Rattle.model.specs.Checks.{ruled}
-use Rattle.model.specs.Effects.{effect, presented_on, new_collection}
+use Rattle.model.specs.Effects.{effect}
 use Rattle.checking.specs.Calls.{is_found, used_row, Done}
-use Rattle.checking.proofs.Laws.Calls.{done_refused, done_accepted, done_same, judged_passes, then_answer, judged_then}
-use Rattle.records.specs.Records.{mandate_terms, date_terms, verdict_by, standing_after, mandate_in, collect_judged, creditor_checks, creditor_answer, CreditorAdded, mandate_checks, mandate_answer, MandateAdded, change_checks, change_answer, change_effect, MandateChanged, collect_checks, collect_answer, collect_effect, Collected}
-
--- ---- what an accepted event passed
-
-pub creditor_number : (l : Ledger) (date number : ℕ) → creditor_answer l date number ≡ (Ok tt) → (1 ≤ number) × (number ≤ length l.creditors)
-creditor_number l date number e =
-    let h = and_halves (leb 1 number) (judged_passes (creditor_checks l date number) refl e 2) in
-    (leb-true 1 number h.0, leb-true number (length l.creditors) h.1)
-
-pub mandate_room : (found : Option ℕ) (l : Ledger) (date : ℕ) (m : Mandate) → mandate_answer found l date m ≡ (Ok tt) → l.mandates_used < rows l.mandates
-mandate_room found l date m e =
-    ltb-true l.mandates_used (rows l.mandates) (judged_passes (mandate_checks found l date m) refl e 3)
-
-module _ (latest date : ℕ) (p : Presentation) (there : Bool) (collection : Option ℕ) (used count : ℕ) (m : Mandate) where
-  pub collect_room : collect_judged latest date p there collection (ltb used count) m ≡ (Ok tt) → used < count
-  collect_room e = ltb-true used count (judged_passes (collect_checks latest date p there collection (ltb used count) m) refl e 3)
+use Rattle.checking.proofs.Laws.Calls.{done_refused, done_accepted, done_same, judged_passes}
+use Rattle.records.specs.Records.{verdict_by, mandate_in, CreditorAdded, MandateAdded, change_checks, change_answer, change_effect, MandateChanged, collect_checks, collect_answer, collect_effect, Collected}
 
 -- ---- the verdict on a collect
-
-module _ (latest date : ℕ) (p : Presentation) (there : Bool) (collection : Option ℕ) (room : Bool) (m : Mandate) where
-  pub collect_then : collect_judged latest date p there collection room m ≡ then_answer (judged (mandate_terms latest date p there collection room m) (Ok tt)) (judged (date_terms date p m) (Ok tt))
-  collect_then = judged_then (mandate_terms latest date p there collection room m) (date_terms date p m) refl
 
 pub verdict_go : (a : Result Unit Refusal) (due x : ℕ) → verdict_by a due ≡ Ok x → (a ≡ (Ok tt)) × (x ≡ due)
 verdict_go (Ok tt) due x e = (refl, cc)
@@ -73,17 +49,6 @@ module _ (mandate collection : Option ℕ) (l : Ledger) (date : ℕ) (p : Presen
       (due : ℕ) (l' : Ledger) → verdict_by (collect_answer mandate collection l date p) (kept_due p.requested) ≡ Ok due
       → l' ≡ collect_effect mandate l date p → Collected mandate collection l date p (Ok tt) l'
   collected_done due l' e f = done_accepted _ _ _ l' (verdict_go (collect_answer mandate collection l date p) (kept_due p.requested) due e).0 f
-
--- ---- the records that are written
-
-module _ (p : Presentation) (m : Mandate) (due : ℕ) (e : due ≡ kept_due p.requested) where
-  pub presented_on_made : (s : Standing) → s ≡ standing_after p.code m.standing → remade m m.creditor m.bank s (m.first && not (eqb p.code 0)) due ≡ presented_on p m
-  unfolding presented_on
-  presented_on_made s q = rw (e, q)
-
-  pub new_collection_made : (creditors : List ℕ) (bank : ℕ) → bank ≡ bank_of creditors m.creditor → ◌≡◌ {A = Collection} (record { number = p.collection; creditor = m.creditor; debtor = m.debtor; cbank = bank; dbank = m.bank; amount = p.amount; due = due; state = Presented }) (new_collection creditors p m)
-  unfolding new_collection
-  new_collection_made creditors bank q = rw (e, q)
 
 -- ---- the model's answers and effects
 

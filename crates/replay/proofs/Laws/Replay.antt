@@ -1,4 +1,4 @@
--- Laws of specs/Replay: how far a replay has come. To cite: `Running` with `running_start`, `running_step`, `running_end`;
+-- Laws of specs/Replay: how far a replay has come. To cite: `Running` with `running_start`, `running_step`;
 -- `replayed_refused`, `replayed_done`. Assumes nothing.
 use Rattle.std.proofs.Common.{Err, Ok, Result}
 use mathlib.Core.Path.{◌≡◌, refl, sym, ap, ◌∙◌}
@@ -64,9 +64,6 @@ running_step events l₀ l l' i e r h q t =
           ∙ sym (run_more (events_to events i) l₀ (event_at events i))
           ∙ ap (λ (n : ℕ). run l₀ (events_to events n)) (sym (add-one i));
     }
-
-pub running_end : (events : List ℕ) (l₀ l : Ledger) (i : ℕ) → Running events l₀ l i → i ≡ length events / event_cells → l ≡ run l₀ (events_in events)
-running_end events l₀ l i h e = h.is ∙ ap (λ (n : ℕ). run l₀ (events_to events n)) e
 
 -- ---- what an opening says
 

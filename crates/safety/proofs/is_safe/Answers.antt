@@ -2,7 +2,6 @@
 use Rattle.std.proofs.Common.{rules}
 use mir.Syntax.{w64}
 use mir.Val.{to_z, of_z}
-use mir.Facts.{to_z-of_z}
 use mathlib.Core.Bool.{true}
 use mathlib.Core.Path.{◌≡◌, sym, ◌∙◌, ap}
 use Prim.Native.Nat.{ℕ, ◌^◌, ◌<◌}

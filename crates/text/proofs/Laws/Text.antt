@@ -1,4 +1,4 @@
--- Laws of specs/Text, for the functions of src/text.rt in their order. To cite: `line_refused`, `line_taken`; `output_none`, `output_line`;
+-- Laws of specs/Text, for the functions of src/text.rt in their order. To cite: `output_line`;
 -- `AnsweredTo` with `answered_start`, `answered_line`, `answered_end`. Assumes nothing.
 use Rattle.std.specs.List.{copy_within}
 use Rattle.std.proofs.Common.{Option, Some, None, Err, Ok, Result, Bor}
@@ -9,13 +9,12 @@ use mathlib.Core.List.{List, [], ◌++◌}
 use Prim.Native.Nat.{ℕ, ◌+◌, ◌-◌, ◌*◌, ◌/◌, ◌≤◌, ◌<◌, min}
 use native.Mathlib.Nat.{add-zero, zero-add}
 use native.Mathlib.Omega.{arith}
-use borrow.Author.Tests.{lt-ltb, le-ltb, leb-true}
+use borrow.Author.Tests.{lt-ltb, leb-true}
 use lib.Dec.{ltb, leb}
 use lib.ListN.{length, take, drop, get_or, length-append, length-take, length-drop, take-append-drop}
 use lib.Seq.{length-take-le, get_or-drop, get_or-take, ext_get_or}
 use Rattle.common.proofs.Tests.{and_halves}
 use Rattle.refusals.specs.declared.Refusal.{Refusal}
-use Rattle.refusals.specs.declared.Refusal.TheVariants.{UnfitMemory}
 use Rattle.refusals.proofs.Laws.Refusals.{number_of_most}
 use Rattle.events.specs.declared.Event.{Event}
 use Rattle.digits.specs.Field.{pasted}
@@ -32,19 +31,8 @@ use Rattle.digits.proofs.Laws.Buffer.{pasted_next}
 use Rattle.report.proofs.Laws.Layout.{length_answer_line, answer_fits_made}
 use Rattle.run.proofs.Laws.Run.{Answering, answering_start, answering_line, rest_after, rest_output}
 use Rattle.text.specs.declared.text.Indexes.{Indexes}
-use Rattle.book.specs.Events.{Taken}
 use Rattle.text.specs.declared.text.Progress.{Progress}
-use Rattle.text.specs.declared.text.Lines.{Lines}
-use Rattle.text.specs.Text.{Prepared, WhenKnown, LineTaken, LineAnswered, LinesAnswered, piece_fits, PieceTaken}
-
--- ---- a line
-
-module _ (l : Ledger) (line : List ℕ) where
-  pub line_refused : (x : Refusal) → read_line line ≡ Err x → LineTaken l line (Err x) l
-  line_refused x e = record { answer_is = rw e; after_is = rw e }
-
-  pub line_taken : (e : Event) (r : Result Unit Refusal) (l' : Ledger) → read_line line ≡ Ok e → Taken l e r l' → LineTaken l line r l'
-  line_taken e r l' q t = record { answer_is = rw q t.answer_is; after_is = rw q t.after_is }
+use Rattle.text.specs.Text.{Prepared, WhenKnown, LineTaken, LineAnswered, LinesAnswered, piece_fits}
 
 -- ---- a line that has ended
 
@@ -52,11 +40,6 @@ module _ (l : Ledger) (line : List ℕ) where
 pasted_none : (at : ℕ) (out : List ℕ) → out ≡ pasted at [] out
 pasted_none at out =
     sym (take-append-drop at out) ∙ ap (λ (n : ℕ). take at out ++ drop n out) (sym (add-zero at))
-
-pub output_none : (l : Ledger) (p : Progress) (line out : List ℕ) → last_number ≤ p.lines → LineAnswered l p line out p l out
-output_none l p line out h =
-    let f = le-ltb p.lines last_number h in
-    record { run = rw f; bytes = rw f (pasted_none p.written out); written = rw f (sym (add-zero p.written)) }
 
 -- the number of an answer has at most three digits
 answer_narrow : (a : Result Unit Refusal) → answer_number a ≤ last_answer
@@ -220,35 +203,6 @@ module _ (filled : ℕ) (text out : List ℕ) (fits : piece_fits filled text out
   pub piece_count : filled ≡ length (take filled text)
   piece_count = sym (length-take-le filled text piece_long)
 
-  pub piece_inside : (at : ℕ) → at ≤ length (take filled text) → at ≤ filled
-  piece_inside at h = omega (arith, piece_count)
-
   pub piece_room : answer_length * length (take filled text) ≤ length out
   piece_room =
       omega (arith, piece_count, leb-true filled (length out / answer_length) (and_halves (leb filled (length text)) fits).1)
-
-module _ (l : Ledger) (lines filled : ℕ) (text out : List ℕ) where
-  pub piece_refused : piece_fits filled text out ≡ false → PieceTaken l lines filled text out (Err UnfitMemory) l text out
-  piece_refused f =
-      record {
-        advanced = record { answer_is = rw f; number_is = rw f; book_is = rw f; out_is = rw f };
-        text_is = rw f;
-      }
-
-  pub piece_taken : (d : Lines) (partial : ℕ) (l' : Ledger) (text' out' : List ℕ)
-      → piece_fits filled text out ≡ true
-      → LinesAnswered (run_at l lines []) (take filled text) out d l' out'
-      → partial ≡ length (clipped (drop d.at (take filled text)))
-      → text' ≡ pasted 0 (clipped (drop d.at (take filled text))) text
-      → PieceTaken l lines filled text out (Ok (record { lines = d.lines; partial = partial; written = d.written })) l' text' out'
-  piece_taken d partial l' text' out' f t b w =
-      record {
-        advanced =
-            record {
-              answer_is = rw (f, t.run, b, t.written);
-              number_is = rw f;
-              book_is = rw (f, t.run);
-              out_is = rw f t.bytes;
-            };
-        text_is = rw (f, t.run) w;
-      }

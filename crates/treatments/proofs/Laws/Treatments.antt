@@ -1,7 +1,7 @@
--- Laws of specs/Treatments: what is written for a verdict. To cite: `sum_fits`, `sum_back`, `amount_back`, `paid_within`, `written`, `treat_refused`,
--- `treat_marked`, `treat_paid`. Assumes nothing.
-use Rattle.std.proofs.Common.{Err, Ok, Option, ℕ, Result}
-use mathlib.Core.Path.{◌≡◌, refl}
+-- Laws of specs/Treatments: what is written for a verdict. To cite: `sum_fits`, `amount_back`, `paid_within`, `written`.
+-- Assumes nothing.
+use Rattle.std.proofs.Common.{ℕ}
+use mathlib.Core.Path.{◌≡◌}
 use mathlib.Core.Bool.{Bool, true}
 use mathlib.Core.List.{List, [], ◌∷◌}
 use Prim.Native.Nat.{ℕ, ◌*◌, ◌≤◌}
@@ -10,7 +10,6 @@ use lib.IntN.{ℤ, nat_abs, ◌+ℤ◌}
 use mir.Syntax.{w64}
 use mir.Val.{SFits, to_z, of_z}
 use Rattle.common.proofs.Tests.{all_of_at}
-use Rattle.refusals.specs.declared.Refusal.{Refusal}
 use Rattle.positions.specs.Positions.{HasEntry, position_limit, has_entry, position, posted, in_limit}
 use Rattle.positions.specs.Answers.{after_post}
 use Rattle.positions.specs.declared.Postings.{Postings}
@@ -19,13 +18,9 @@ use Rattle.positions.proofs.Laws.Positions.{has_entry_entry, entry_posted, size_
 use Rattle.positions.proofs.Laws.Answers.{post_fits}
 use Rattle.tables.specs.declared.Collection.{Collection}
 use Rattle.tables.specs.declared.Header.{Header}
-use Rattle.tables.specs.Ledger.{Ledger, ledger}
+use Rattle.tables.specs.Ledger.{ledger}
 use Rattle.tables.specs.Rows.{put_collection}
-use Rattle.model.specs.declared.Treatment.{Treatment}
-use Rattle.model.specs.Effects.{dated, keep_collection}
-use Rattle.checking.specs.Calls.{found_row, Done}
-use Rattle.treatments.specs.declared.verdicts.Verdict.TheVariants.{Mark, Post}
-use Rattle.treatments.specs.Treatments.{held, postable, header_after, pay_answer, pay_effect, verdict_at, Treated}
+use Rattle.treatments.specs.Treatments.{held, postable, header_after, pay_effect}
 
 -- ---- two signed numbers, as 64 bits hold them
 
@@ -35,12 +30,6 @@ module _ (a b : ℤ) (p : in_limit position_limit a ≡ true) (q : in_limit posi
       let m = within_size position_limit a p in
       let n = within_size position_limit b q in
       rw (bits_back a (omega arith), bits_back b (omega arith)) (size_fits (a +ℤ b) (omega (arith, size_add a b)))
-
-  pub sum_back : to_z w64 (of_z w64 (to_z w64 (of_z w64 a) +ℤ to_z w64 (of_z w64 b))) ≡ a +ℤ b
-  sum_back =
-      let m = within_size position_limit a p in
-      let n = within_size position_limit b q in
-      rw (bits_back a (omega arith), bits_back b (omega arith)) (bits_back (a +ℤ b) (omega (arith, size_add a b)))
 
 pub amount_back : (a : ℤ) → in_limit position_limit a ≡ true → to_z w64 (of_z w64 a) ≡ a
 amount_back a p = let m = within_size position_limit a p in bits_back a (omega arith)
@@ -122,19 +111,3 @@ written h date row k p cs cp dp bp s r cs' cp' dp' mid bp' x y u v w ex ey eu ev
     f.cbank.amount
     in
     rw (er, ec, ecp, edp, ebp, emid, ex, ey, eu, ev, ew, creditors, debtors, first, second)
-
--- ---- the call, by its verdict
-
-module _ (found : Option ℕ) (l : Ledger) (date : ℕ) (t : Treatment) where
-  pub treat_refused : (r : Refusal) → verdict_at found l date t ≡ Err r → Treated found l date t (Err r) l
-  treat_refused r e = rw e (record { answer_is = refl; after_is = refl })
-
-  pub treat_marked :
-      (k : Collection) (l' : Ledger) → verdict_at found l date t ≡ Ok (Mark k) → l' ≡ keep_collection (dated l date) (found_row found) k
-      → Treated found l date t (Ok tt) l'
-  treat_marked k l' e q = rw e (record { answer_is = refl; after_is = q })
-
-  pub treat_paid :
-      (k : Collection) (p : Postings) (r : Result Unit Refusal) (l' : Ledger) → verdict_at found l date t ≡ Ok (Post k p)
-      → Done (pay_answer k p l) l (pay_effect (found_row found) date k p l) r l' → Treated found l date t r l'
-  treat_paid k p r l' e d = rw e d

@@ -1,4 +1,3 @@
-use lib.ListN.{length}
 use Rattle.listing.specs.Listing.{table_output}
 use Rattle.digits.proofs.Laws.Buffer.{Written}
 use Rattle.listing.proofs.listing.list_kind.Given as goal
