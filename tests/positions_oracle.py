@@ -63,21 +63,23 @@ def integers(text):
     return [int(n) for n in re.findall(r"-?\d+", text)]
 
 
-def column(text, name):
-    return integers(re.search(rf"const {name}: [^=]*= \[(.*?)\]", text, re.S).group(1))
+def rows(text, name):
+    """The tuples of numbers of a constant."""
+    return [integers(row) for row in re.findall(r"\(([-\d,\s]+)\)", re.search(rf"const {name}: [^=]*= \[(.*?)\];", text, re.S).group(1))]
 
 
 def main():
     with open("crates/positions_cases/src/main.rt", encoding="utf-8") as file:
         text = file.read()
-    for case in zip(column(text, "AMOUNTS"), column(text, "RATES"), column(text, "DAYS")):
+    for case in rows(text, "CASES"):
         print(*case, compensated(*case))
         print(*case, products(*case))
-    for numbers in re.findall(r"show_products\(rt, ([\d, ]+)\)", text):
-        print(*integers(numbers), products(*integers(numbers)))
+    for case in rows(text, "LIMITS"):
+        print(*case, products(*case))
     table = {entry: 0 for entry in range(1, 5)}
-    for call, numbers in re.findall(r"show\(rt, (post|transfer)\(t, ([-\d, ]+)\), t\)", text):
-        print(posted(table, moves(call, integers(numbers))), *table.values())
+    for call, name in (("post", "POSTS"), ("transfer", "TRANSFERS"), ("post", "LAST_POSTS")):
+        for numbers in rows(text, name):
+            print(posted(table, moves(call, numbers)), *table.values())
     for call, numbers in re.findall(r"show_amounts\(rt, (settlement|reversed|refunded)\(([\d, ]+)\)\)", text):
         print(*amounts(call, *integers(numbers)))
 

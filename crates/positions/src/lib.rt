@@ -6,7 +6,8 @@ pub mod amounts;
 pub mod compensation;
 pub mod posting;
 
-use refusals::Refusal;
+use std::error::Error;
+use std::fmt;
 
 // The largest compensation, in cents.
 pub const COMPENSATION_LIMIT: u64 = 277472249997;
@@ -17,6 +18,17 @@ pub enum PostError {
     NoEntry,
     TooLarge,
 }
+
+impl fmt::Display for PostError {
+    fn fmt<W: fmt::Write>(&self, f: &mut fmt::Formatter<W>) -> fmt::Result {
+        match self {
+            PostError::NoEntry => write!(f, "no entry"),
+            PostError::TooLarge => write!(f, "too large"),
+        }
+    }
+}
+
+impl Error for PostError {}
 
 // The amounts that one event posts: to the debtor, the creditor, the bank of each and total compensation.
 #[derive(Clone, Copy, Debug, PartialEq, Eq)]
