@@ -56,14 +56,22 @@ abbrev pub read_fields : List ℕ → ℕ → List ℕ → Fields
 read_fields [] at l = Values []
 read_fields (w ∷ ws) at l = joined (read_field (take w (drop at l))) (read_fields ws (at + w) l)
 
+-- the event of fields
+abbrev pub event_read : Fields → Option Event
+event_read Unreadable = None
+event_read (Values vs) = Some (event_of vs)
+
 -- an event that was read is within its limits, or is refused by 3, 4 or 5
 abbrev pub answer_of : Event → Result Unit Refusal → Result Event Refusal
 answer_of e (Ok tt) = Ok e
 answer_of e (Err r) = Err r
 
+abbrev pub event_taken : Option Event → Result Event Refusal
+event_taken None = Err BadLine
+event_taken (Some e) = answer_of e (checked e)
+
 abbrev pub taken : Fields → Result Event Refusal
-taken Unreadable = Err BadLine
-taken (Values vs) = answer_of (event_of vs) (checked (event_of vs))
+taken fields = event_taken (event_read fields)
 
 -- 74 columns and byte 10
 abbrev pub is_line : List ℕ → Bool
@@ -74,18 +82,6 @@ read_line l =
     cond (is_line l)
     (taken (read_fields widths 0 l))
     (Err BadLine)
-
--- ---- reading into lent cells, one for each field
-
--- the answer without its event
-abbrev pub checked_line : Result Event Refusal → Result Unit Refusal
-checked_line (Ok e) = (Ok tt)
-checked_line (Err r) = Err r
-
--- the fields of the event, or the cells as they were
-abbrev pub cells_by : Result Event Refusal → List ℕ → List ℕ
-cells_by (Ok e) cells = fields_of e
-cells_by (Err r) cells = cells
 
 -- ---- writing to a lent buffer
 

@@ -1,7 +1,7 @@
 -- Laws of specs/Line. To cite, of fields one after the other: `read_fields_fields_bytes` and `fields_bytes_read_fields` (reading and
 -- writing undo each other); of a line: `narrow_fields` (every limit fits its column). The rest serves the functions of src/line.rt.
 -- Assumes nothing.
-use Rattle.std.proofs.Common.{Err, None, Ok, Option, Result, Some, ℕ}
+use Rattle.std.proofs.Common.{Err, None, Option, Some, ℕ}
 use mathlib.Core.Path.{◌≡◌, refl, sym, ◌∙◌, ap, subst}
 use mathlib.Core.Bool.{Bool, true, ◌&&◌}
 use mathlib.Core.List.{List, [], ◌∷◌, ◌++◌, append_assoc, append-nil}
@@ -9,22 +9,21 @@ use Prim.Native.Nat.{ℕ, zero, suc, ◌+◌, ◌^◌, ◌≤◌, ◌<◌}
 use native.Mathlib.Numerals.{add-one}
 use native.Mathlib.Omega.{arith}
 use lib.Dec.{leb, ltb}
-use lib.ListN.{length, take, drop, get_or, set, length-append, length-drop, length-set, drop_of_length-le}
+use lib.ListN.{length, take, drop, get_or, set, length-append, length-drop, drop_of_length-le}
 use lib.Seq.{drop-cons, take_at, drop_at, drop-drop, take-add, length-take-le}
-use borrow.Author.Tests.{leb-true, le-leb, lt-leb, ltb-true, eq-eqb, ne_eqb}
+use borrow.Author.Tests.{leb-true, ltb-true, ne_eqb}
 use Rattle.common.proofs.Tests.{and_halves}
 use Rattle.calendar.specs.Gregorian.{last_date}
 use Rattle.calendar.proofs.Laws.Gregorian.{range_facts}
 use Rattle.events.specs.declared.Event.{Event}
 use Rattle.events.specs.declared.limits.Row.{Row}
-use Rattle.refusals.specs.declared.Refusal.{Refusal}
-use Rattle.refusals.specs.declared.Refusal.TheVariants.{BadLine, UnfitMemory}
+use Rattle.refusals.specs.declared.Refusal.TheVariants.{BadLine}
 use Rattle.events.proofs.Laws.Limits.{Limited, every_row, row_of_every, row_of_codes, second_le}
-use Rattle.events.specs.Limits.{table, last_kind, checked}
-use Rattle.digits.specs.Field.{blank, field_bytes, read_field, has_room, field_at}
+use Rattle.events.specs.Limits.{table, last_kind}
+use Rattle.digits.specs.Field.{blank, field_bytes, read_field, has_room, field_at, put_at}
 use Rattle.digits.proofs.Laws.Field.{length_signed_field, read_field_field_bytes, field_bytes_read_field}
-use Rattle.digits.proofs.Laws.Buffer.{field_inside, Written, written_front}
-use Rattle.lines.specs.Line.{widths, columns, line_length, line_end, line_of, taken, read_line, checked_line, cells_by, written_of, write_answer, bytes_after, fields_of, event_of, fields_bytes, Fields, Values, Unreadable, joined, read_fields}
+use Rattle.digits.proofs.Laws.Buffer.{field_inside, written_none, written_field, written_byte, written_front}
+use Rattle.lines.specs.Line.{widths, line_length, line_end, line_of, read_line, fields_of, event_of, fields_bytes, Fields, Values, Unreadable, joined, read_fields}
 
 -- ---- fields one after the other
 
@@ -185,114 +184,70 @@ entries_drop vs i (suc n) h =
 pub fields_of_event_of : (vs : List ℕ) → length vs ≡ length widths → fields_of (event_of vs) ≡ vs
 fields_of_event_of vs h = entries_drop vs 0 9 h
 
--- ---- the cells of an event
-
--- cells after values were stored one after the other from i on
-abbrev pub stored : List ℕ → ℕ → List ℕ → List ℕ
-stored l i [] = l
-stored l i (v ∷ vs) = stored (set l i v) (i + 1) vs
-
-pub length_stored : (l : List ℕ) (i : ℕ) (vs : List ℕ) → length (stored l i vs) ≡ length l
-length_stored l i [] = refl
-length_stored l i (v ∷ vs) = length_stored (set l i v) (i + 1) vs ∙ length-set l i v
-
--- stores keep the number of cells
-pub cell_within : (l vs : List ℕ) (i : ℕ) → length l ≡ length widths → i < length widths → i < length (stored l 0 vs)
-cell_within l vs i h k = omega (arith, length_stored l 0 vs)
-
--- nine cells hold the nine fields that were stored
-pub cells_stored : (e : Event) (l : List ℕ) → length l ≡ length widths → stored l 0 (fields_of e) ≡ fields_of e
-cells_stored e l h = ap (λ (m : List ℕ). stored m 0 (fields_of e)) (sym (fields_of_event_of l h))
-
 -- ---- reading a line field by field
 
--- fields with the values vs before them
-abbrev pub after : List ℕ → Fields → Fields
-after [] f = f
-after (v ∷ vs) f = joined (Some v) (after vs f)
-
-after_joined : (vs : List ℕ) (v : ℕ) (f : Fields) → after vs (joined (Some v) f) ≡ after (vs ++ (v ∷ [])) f
-after_joined [] v f = refl
-after_joined (u ∷ vs) v f = ap (joined (Some u)) (after_joined vs v f)
-
-after_unreadable : (vs : List ℕ) → after vs Unreadable ≡ Unreadable
-after_unreadable [] = refl
-after_unreadable (v ∷ vs) = rw (after_unreadable vs)
-
 -- a field that lies in the line
-module _ (vs ws l : List ℕ) (at w : ℕ) (h : length l ≡ line_length) (fits : leb w 12 && has_room at w line_length ≡ true) where
-  field_is : field_at at w l ≡ read_field (take w (drop at l))
-  field_is =
-      let p = and_halves (leb w 12) fits in
-      field_inside at w l (leb-true w 12 p.0) (omega (arith, h, leb-true (at + w) line_length p.1))
+field_is : (l : List ℕ) (at w : ℕ) → length l ≡ line_length → leb w 12 && has_room at w line_length ≡ true → read_field (take w (drop at l)) ≡ field_at at w l
+field_is l at w h fits =
+    let p = and_halves (leb w 12) fits in
+    sym (field_inside at w l (leb-true w 12 p.0) (omega (arith, h, leb-true (at + w) line_length p.1)))
 
-  -- where it was read, it joins those before it
-  pub after_value : (v : ℕ)
-      → field_at at w l ≡ Some v
-      → after vs (read_fields (w ∷ ws) at l) ≡ after (vs ++ (v ∷ [])) (read_fields ws (at + w) l)
-  after_value v e =
-      ap (λ (a : Option ℕ). after vs (joined a (read_fields ws (at + w) l))) (sym field_is ∙ e)
-      ∙ after_joined vs v (read_fields ws (at + w) l)
-
-  -- where it cannot be read, nothing is left
-  pub after_none : field_at at w l ≡ None → after vs (read_fields (w ∷ ws) at l) ≡ Unreadable
-  after_none e =
-      ap (λ (a : Option ℕ). after vs (joined a (read_fields ws (at + w) l))) (sym field_is ∙ e) ∙ after_unreadable vs
-
--- what is answered and what the cells hold, where the answer of a line is known
-pub cells_answer : (cells : List ℕ) (a b : Result Event Refusal)
-    → a ≡ b
-    → (checked_line b ≡ checked_line a) × (cells_by b cells ≡ cells_by a cells)
-cells_answer cells a b p = (ap checked_line (sym p), ap (λ (x : Result Event Refusal). cells_by x cells) (sym p))
+-- the fields of a line, each at its place
+pub fields_are : (l : List ℕ)
+    → length l ≡ line_length
+    → read_fields widths 0 l
+    ≡ joined (field_at 0 2 l)
+    (joined (field_at 2 9 l)
+    (joined (field_at 11 10 l)
+    (joined (field_at 21 10 l)
+    (joined (field_at 31 10 l)
+    (joined (field_at 41 10 l)
+    (joined (field_at 51 12 l)
+    (joined (field_at 63 9 l)
+    (joined (field_at 72 2 l) (Values [])))))))))
+fields_are l h =
+    rw (
+      field_is l 0 2 h refl,
+      field_is l 2 9 h refl,
+      field_is l 11 10 h refl,
+      field_is l 21 10 h refl,
+      field_is l 31 10 h refl,
+      field_is l 41 10 h refl,
+      field_is l 51 12 h refl,
+      field_is l 63 9 h refl,
+      field_is l 72 2 h refl,
+    )
 
 -- ---- a line written field by field
 
--- the nine fields and the byte that ends them are the line
-pub line_of_written : (e : Event) (out now : List ℕ)
-    → Written 0 out
-    (field_bytes 2 e.kind
-    ++ field_bytes 9 e.date
-    ++ field_bytes 10 e.mandate
-    ++ field_bytes 10 e.a
-    ++ field_bytes 10 e.b
-    ++ field_bytes 10 e.c
-    ++ field_bytes 12 e.amount
-    ++ field_bytes 9 e.second
-    ++ field_bytes 2 e.code
-    ++ (line_end ∷ []))
-    line_length now
-    → now ≡ line_of e ++ drop line_length out
+-- the nine fields, written one after the other, and the byte that ends them are the line
+pub line_of_written : (e : Event) (o o1 o2 o3 o4 o5 o6 o7 o8 o9 : List ℕ)
+    → line_length ≤ length o
+    → o1 ≡ put_at 0 2 blank e.kind o
+    → o2 ≡ put_at 2 9 blank e.date o1
+    → o3 ≡ put_at 11 10 blank e.mandate o2
+    → o4 ≡ put_at 21 10 blank e.a o3
+    → o5 ≡ put_at 31 10 blank e.b o4
+    → o6 ≡ put_at 41 10 blank e.c o5
+    → o7 ≡ put_at 51 12 blank e.amount o6
+    → o8 ≡ put_at 63 9 blank e.second o7
+    → o9 ≡ put_at 72 2 blank e.code o8
+    → set o9 74 line_end ≡ line_of e ++ drop line_length o
 unfolding line_of
-line_of_written e out now w = written_front _ line_length out now w ∙ simp (append_assoc, append-nil)
+line_of_written e o o1 o2 o3 o4 o5 o6 o7 o8 o9 h p1 p2 p3 p4 p5 p6 p7 p8 p9 =
+    let w1 = written_field 0 o [] 0 o (written_none 0 o) 2 blank e.kind o1 2 refl (omega arith) p1 in
+    let w2 = written_field 0 o _ 2 o1 w1 9 blank e.date o2 11 refl (omega arith) p2 in
+    let w3 = written_field 0 o _ 11 o2 w2 10 blank e.mandate o3 21 refl (omega arith) p3 in
+    let w4 = written_field 0 o _ 21 o3 w3 10 blank e.a o4 31 refl (omega arith) p4 in
+    let w5 = written_field 0 o _ 31 o4 w4 10 blank e.b o5 41 refl (omega arith) p5 in
+    let w6 = written_field 0 o _ 41 o5 w5 10 blank e.c o6 51 refl (omega arith) p6 in
+    let w7 = written_field 0 o _ 51 o6 w6 12 blank e.amount o7 63 refl (omega arith) p7 in
+    let w8 = written_field 0 o _ 63 o7 w7 9 blank e.second o8 72 refl (omega arith) p8 in
+    let w9 = written_field 0 o _ 72 o8 w8 2 blank e.code o9 74 refl (omega arith) p9 in
+    written_front _ line_length o _ (written_byte 0 o _ 74 o9 w9 line_end 75 refl h) ∙ simp (append_assoc, append-nil)
 
--- ---- read_line, write_answer, bytes_after
+-- ---- read_line
 
-module _ (l : List ℕ) where
-  pub read_line_length : (length l ≡ line_length → ⊥) → read_line l ≡ Err BadLine
-  unfolding read_line
-  read_line_length n = rw (ne_eqb (length l) line_length n)
-
-  pub read_line_end : length l ≡ line_length → (get_or l columns 0 ≡ line_end → ⊥) → read_line l ≡ Err BadLine
-  unfolding read_line
-  read_line_end e n = rw (eq-eqb (length l) line_length e, ne_eqb (get_or l columns 0) line_end n)
-
-  pub read_line_fields : length l ≡ line_length → get_or l columns 0 ≡ line_end → read_line l ≡ taken (read_fields widths 0 l)
-  unfolding read_line
-  read_line_fields e g = rw (eq-eqb (length l) line_length e, eq-eqb (get_or l columns 0) line_end g)
-
-module _ (e : Event) (out : List ℕ) where
-  pub write_answer_short : length out < line_length → write_answer e out ≡ Err UnfitMemory
-  unfolding write_answer
-  write_answer_short h = rw (lt-leb line_length (length out) h)
-
-  pub write_answer_checked : line_length ≤ length out → write_answer e out ≡ written_of (checked e)
-  unfolding write_answer checked
-  write_answer_checked h = rw (le-leb line_length (length out) h)
-
-  pub bytes_after_refused : (r : Refusal) → write_answer e out ≡ Err r → bytes_after e out ≡ out
-  unfolding bytes_after
-  bytes_after_refused r p = rw p
-
-  pub bytes_after_written : write_answer e out ≡ (Ok tt) → bytes_after e out ≡ line_of e ++ drop line_length out
-  unfolding bytes_after
-  bytes_after_written p = rw p
+pub read_line_length : (l : List ℕ) → (length l ≡ line_length → ⊥) → read_line l ≡ Err BadLine
+unfolding read_line
+read_line_length l n = rw (ne_eqb (length l) line_length n)

@@ -1,6 +1,6 @@
--- The answers in the paper's numbers. To cite: `reader_number_lem`, `writer_number_lem`, `checked_line_number`. Assumes nothing.
+-- The answers in the paper's numbers. To cite: `reader_number_lem`, `writer_number_lem`. Assumes nothing.
 use Rattle.std.proofs.Common.{Err, Ok, Result}
-use mathlib.Core.Path.{◌≡◌, refl, ◌∙◌}
+use mathlib.Core.Path.{◌≡◌, refl, sym, ◌∙◌}
 use mathlib.Core.Bool.{Bool, true, false, cond, ◌&&◌}
 use mathlib.Core.List.{List, [], ◌∷◌}
 use Prim.Native.Nat.{ℕ}
@@ -13,7 +13,7 @@ use Rattle.refusals.specs.declared.Refusal.TheVariants.{BadLine, UnfitMemory, Un
 use Rattle.events.specs.declared.Event.{Event}
 use Rattle.events.proofs.Laws.Numbers.{by_limits, limit_number_lem}
 use Rattle.events.specs.Limits.{within, kinds, fields_fit, limit_checks, checked, checked_number}
-use Rattle.lines.specs.Line.{widths, event_of, columns, line_length, line_end, Fields, Values, Unreadable, read_fields, answer_of, taken, read_line, checked_line, written_of, write_answer, line_number, write_number, fields_number, reader_number, writer_number}
+use Rattle.lines.specs.Line.{widths, event_of, columns, line_length, line_end, Fields, Values, Unreadable, read_fields, answer_of, taken, read_line, written_of, write_answer, line_number, write_number, fields_number, reader_number, writer_number}
 
 -- ---- the reader
 
@@ -33,9 +33,8 @@ pub reader_number_lem : (l : List ℕ) → line_number (read_line l) ≡ reader_
 unfolding read_line reader_number
 reader_number_lem l = by_line (eqb (length l) line_length && eqb (get_or l columns 0) line_end) (read_fields widths 0 l)
 
-pub checked_line_number : (a : Result Event Refusal) → checked_number (checked_line a) ≡ line_number a
-checked_line_number (Ok e) = refl
-checked_line_number (Err r) = refl
+pub reader_number_is : (l : List ℕ) → reader_number l ≡ line_number (read_line l)
+reader_number_is l = sym (reader_number_lem l)
 
 -- ---- the writer
 
@@ -52,3 +51,6 @@ unfolding write_answer writer_number
 writer_number_lem e out =
     written (judged (check (leb line_length (length out)) (Err UnfitMemory) ∷ limit_checks e) (Ok tt))
     ∙ by_room (leb line_length (length out)) (within kinds e.kind) (in_range e.date) (fields_fit e)
+
+pub writer_number_is : (e : Event) (out : List ℕ) → writer_number e out ≡ write_number (write_answer e out)
+writer_number_is e out = sym (writer_number_lem e out)

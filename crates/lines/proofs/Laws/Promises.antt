@@ -1,5 +1,4 @@
--- The promises of specs/Promises, proved: each theorem has the name of its statement. And of the reader into cells, to cite:
--- `cells_taken` and `cells_refused`. Assumes nothing.
+-- The promises of specs/Promises, proved: each theorem has the name of its statement. Assumes nothing.
 use Rattle.std.proofs.Common.{Err, Ok, Result}
 use mathlib.Core.Path.{◌≡◌, refl, sym, ◌∙◌, ap}
 use mathlib.Core.Bool.{Bool, true, false, cond, ◌&&◌}
@@ -16,7 +15,7 @@ use Rattle.refusals.specs.declared.Refusal.{Refusal}
 use Rattle.refusals.specs.declared.Refusal.TheVariants.{BadLine, UnfitMemory, UnknownKind, BadDate, BadField}
 use Rattle.events.specs.declared.Event.{Event}
 use Rattle.events.specs.Limits.{within, kinds, fields_fit, checked}
-use Rattle.lines.specs.Line.{widths, fields_of, event_of, columns, line_length, line_end, fields_bytes, line_of, Fields, Values, Unreadable, read_fields, answer_of, taken, read_line, checked_line, cells_by, write_answer, bytes_after, line_number, write_number, written_of}
+use Rattle.lines.specs.Line.{widths, fields_of, event_of, columns, line_length, line_end, fields_bytes, line_of, Fields, Values, Unreadable, read_fields, answer_of, taken, read_line, write_answer, bytes_after, line_number, write_number, written_of}
 use Rattle.common.specs.Tests.{among}
 use Rattle.lines.specs.Promises.{LineHasItsLength, ReadsWhatWasWritten, WritesWhatWasRead, OnlyWithinIsTaken, EveryEventHasALine, NoEventHasTwoLines, NoLineHasTwoEvents, ReaderAnswers, WriterAnswers}
 use Rattle.events.proofs.Laws.Limits.{checked_facts}
@@ -123,35 +122,6 @@ pub writes_what_was_read : WritesWhatWasRead
 writes_what_was_read l e out t h =
     written e out (only_within_is_taken l e t) h
     ∙ ap (λ (s : List ℕ). s ++ drop line_length out) (sym (no_event_has_two_lines l e t))
-
--- ---- the reader into cells
-
--- a line that was taken: its event, and that the cells hold its fields
-pub record CellsTaken (line cells : List ℕ) : Type 0 where
-  pub event : Event
-  pub is_read : read_line line ≡ Ok event
-  pub is_cells : cells_by (read_line line) cells ≡ fields_of event
-  pub is_within : checked event ≡ (Ok tt)
-
-answer_taken : (line cells : List ℕ) (a : Result Event Refusal) → read_line line ≡ a → checked_line a ≡ (Ok tt) → CellsTaken line cells
-answer_taken line cells (Ok e) p t =
-    record {
-      event = e;
-      is_read = p;
-      is_cells = ap (λ (a : Result Event Refusal). cells_by a cells) p;
-      is_within = only_within_is_taken line e p;
-    }
-answer_taken line cells (Err r) p t = let z : ◌≡◌ {A = ℕ} 0 1 = cc in absurd (omega arith)
-
-pub cells_taken : (line cells : List ℕ) → checked_line (read_line line) ≡ (Ok tt) → CellsTaken line cells
-cells_taken line cells t = answer_taken line cells (read_line line) refl t
-
-checked_line_refused : (a : Result Event Refusal) (r : Refusal) → checked_line a ≡ Err r → a ≡ Err r
-checked_line_refused (Ok e) r t = let z : ◌≡◌ {A = ℕ} 0 1 = cc in absurd (omega arith)
-checked_line_refused (Err s) r t = let p : s ≡ r = cc in ap Err p
-
-pub cells_refused : (line : List ℕ) (r : Refusal) → checked_line (read_line line) ≡ Err r → read_line line ≡ Err r
-cells_refused line r t = checked_line_refused (read_line line) r t
 
 -- ---- the numbers of the answers
 
