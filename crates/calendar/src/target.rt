@@ -46,11 +46,21 @@ pub fn is_open(n: u64) -> bool
     open_in(p.year, p.day, n)
 }
 
-// The first business day on or after the day n.
+// The first business day on or after the day n: a loop left by break with it, the form that document 01 names for it.
 pub fn first_open(n: u64) -> Option<u64>
     ensures { result ≡ in_calendar (first_open n) }
 {
-    (n..CALENDAR_DAYS).find(|&d| is_open(d))
+    if CALENDAR_DAYS <= n {
+        return None;
+    }
+    let mut d = n;
+    let first = loop {
+        if is_open(d) {
+            break d;
+        }
+        d += 1;
+    };
+    Some(first)
 }
 
 // The last business day before the day n.

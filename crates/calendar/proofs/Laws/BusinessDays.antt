@@ -1,8 +1,8 @@
 -- Laws of specs/Target: the first business day on or after a day, the n-th after it, the last one before it.
--- To cite: `first_open_first`, `first_open_lt`, `first_open_near`, `first_open_mono`, `first_open_found`; `open_after_more`, `open_after_from`,
+-- To cite: `first_open_first`, `first_open_lt`, `first_open_near`, `first_open_mono`; `open_after_more`, `open_after_from`,
 -- `open_after_near`, `open_after_mono`, `open_after_mono_count`; `last_open_is`, `last_open_exists`, `first_before`, and `yields_back` with
 -- `last_open_found`. Assumes nothing.
-use Rattle.std.proofs.Common.{None, Option, Some, MatchOption, List, [], ◌∷◌}
+use Rattle.std.proofs.Common.{None, Option, Some, List, [], ◌∷◌}
 use Rattle.std.specs.Option.{option_map}
 use Rattle.std.specs.List.{find}
 use Rattle.std.specs.Iterator.{AlwaysYields}
@@ -20,10 +20,9 @@ use native.Mathlib.Omega.{arith}
 use lib.Dec.{ltb}
 use borrow.Author.Tests.{lt-ltb, le-ltb}
 use Rattle.common.proofs.Tests.{never}
-use Rattle.calendar.specs.DayNumber.{calendar_days, in_calendar}
+use Rattle.calendar.specs.DayNumber.{calendar_days}
 use Rattle.calendar.specs.Target.{is_open, First, seek, first_open, open_after, Last, last_open_before}
 use Rattle.calendar.specs.Promises.{LastFound}
-use Rattle.calendar.proofs.Laws.Answers.{in_calendar_is, in_calendar_beyond}
 use Rattle.calendar.proofs.Laws.Target.{open_lt, closed_not_last, first_unique, first_here, first_later, first_rest, first_mono}
 use Rattle.calendar.proofs.Laws.Holidays.{first_near}
 
@@ -72,6 +71,12 @@ pub first_open_mono : (n m : ℕ) → n ≤ m → m < calendar_days → first_op
 first_open_mono n m l h =
     first_mono n m (first_open n) (first_open m) l (first_open_first n (omega arith)) (first_open_first m h)
 
+pub first_open_open : (n : ℕ) → is_open n ≡ true → first_open n ≡ n
+first_open_open n e = first_open_is n n (first_here n e)
+
+pub first_open_closed : (n : ℕ) → n < calendar_days → is_open n ≡ false → first_open n ≡ first_open (n + 1)
+first_open_closed n h e = first_open_is n (first_open (n + 1)) (first_later n _ e (first_open_first (n + 1) (closed_not_last n h e)))
+
 seek_from_case : (b : Bool) (f n : ℕ) → n + 1 ≤ seek f (n + 1) → n ≤ cond b n (seek f (n + 1))
 seek_from_case true f n h = omega arith
 seek_from_case false f n h = omega arith
@@ -85,23 +90,6 @@ seek_from (suc f) n = seek_from_case (is_open n) f n (seek_from f (n + 1))
 pub first_open_from : (n : ℕ) → n ≤ first_open n
 unfolding first_open
 first_open_from n = seek_from 4 n
-
--- what a search along the days from n on finds
-pub first_open_found :
-    (n : ℕ) (r : Option ℕ)
-    → MatchOption r ((j : ℕ) → n ≤ j → j < calendar_days → is_open j ≡ false)
-    (λ d. (n ≤ d) × (d < calendar_days) × (is_open d ≡ true) × ((j : ℕ) → n ≤ j → j < d → is_open j ≡ false))
-    → r ≡ in_calendar (first_open n)
-first_open_found n (Some d) f =
-    let e = first_open_is n d (record { from = f.0; is_open_lem = f.2; shut = f.3 }) in
-    rw e (sym (in_calendar_is d f.1))
-first_open_found n None shut =
-    elim (dec_le calendar_days n) [
-      | yes h ↦ sym (in_calendar_beyond (first_open n) (omega (arith, first_open_from n)))
-      | no h ↦
-          let f = first_open_first n (omega arith) in
-          absurd (never f.is_open_lem (shut (first_open n) f.from (first_open_lt n (omega arith))))
-    ]
 
 -- ---- open_after
 
