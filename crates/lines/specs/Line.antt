@@ -56,19 +56,19 @@ abbrev pub read_fields : List ℕ → ℕ → List ℕ → Fields
 read_fields [] at l = Values []
 read_fields (w ∷ ws) at l = joined (read_field (take w (drop at l))) (read_fields ws (at + w) l)
 
--- the event of fields
-abbrev pub event_read : Fields → Option Event
-event_read Unreadable = None
-event_read (Values vs) = Some (event_of vs)
+-- the event of fields, or refusal 1
+abbrev pub event_read : Fields → Result Event Refusal
+event_read Unreadable = Err BadLine
+event_read (Values vs) = Ok (event_of vs)
 
 -- an event that was read is within its limits, or is refused by 3, 4 or 5
 abbrev pub answer_of : Event → Result Unit Refusal → Result Event Refusal
 answer_of e (Ok tt) = Ok e
 answer_of e (Err r) = Err r
 
-abbrev pub event_taken : Option Event → Result Event Refusal
-event_taken None = Err BadLine
-event_taken (Some e) = answer_of e (checked e)
+abbrev pub event_taken : Result Event Refusal → Result Event Refusal
+event_taken (Err r) = Err r
+event_taken (Ok e) = answer_of e (checked e)
 
 abbrev pub taken : Fields → Result Event Refusal
 taken fields = event_taken (event_read fields)
