@@ -10,7 +10,7 @@ ROOT = pathlib.Path(__file__).resolve().parent.parent
 CITATION = re.compile(r"`([a-z_]+/[\w/]+\.(?:antt|rt)|[a-z_]+/must-fail)`(?: \(((?:`[^`]+`(?:, )?)+)\))?")
 DEFINITION = {
     ".antt": r"^\s*(?:abbrev |unfoldable )?(?:pub )?(?:record |data )?%s(?: [^=\n]*)?:",
-    ".rt": r'^(?:pub )?(?:extern "C" )?(?:fn|struct|enum|const) %s\b',
+    ".rt": r'^\s*(?:pub )?(?:extern "C" )?(?:fn|struct|enum|const|trait) %s\b',
 }
 EXAMPLE = re.compile(r"^```events ?(\S*)\n(.*?)^```$.*?^```answers\n(.*?)^```$", re.S | re.M)
 
