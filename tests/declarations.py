@@ -14,7 +14,8 @@ CONSTANTS = {
     "tables/src/rows.rt": {"ROW_CELLS": "STRIDE"},
     "cells/src/lib.rt": {name: name for name in ("LATEST", "MANDATES_USED", "COLLECTIONS_USED", "LINES", "FILLED", "WRITTEN", "PAST",
                                                 "COMPENSATION", "FIGURE")},
-    "cells/src/reading.rt": {"STATE_CELLS": "STATE_CELLS", "CENTS_CELLS": "CENTS_CELLS", "EVENT_CELLS": "EVENT_CELLS"},
+    "cells/src/reading.rt": {"STATE_CELLS": "STATE_CELLS", "CENTS_CELLS": "CENTS_CELLS"},
+    "events/src/lib.rt": {"EVENT_CELLS": "FIELDS"},
     "lines/src/line.rt": {"LINE_BYTES": "LINE"},
     "report/src/layout.rt": {"ANSWER_BYTES": "ANSWER", "POSITION_BYTES": "POSITION", "LAST_LINE": "LAST_NUMBER"},
 }

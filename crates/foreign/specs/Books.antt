@@ -1,43 +1,15 @@
 -- The calls that change the book over lent cells, against the model. Of each, l is the ledger that the cells and the tables hold before
 -- it, and l' the one after. Assumes nothing.
-use Rattle.std.specs.Prelude.{◌≡◌, Bool, true, cond, ◌&&◌, List, [], ◌∷◌, ℕ, ℤ, pos, Result, Ok, Err}
-use Rattle.refusals.specs.declared.Refusal.{Refusal}
+use Rattle.std.specs.Prelude.{◌≡◌, Bool, true, cond, ◌&&◌, List, [], ◌∷◌, ℕ, ℤ, pos}
 use Rattle.refusals.specs.declared.Refusal.TheVariants.{UnfitMemory}
 use Rattle.refusals.specs.Refusals.{number_of}
 use Rattle.tables.specs.Ledger.{Ledger}
 use Rattle.fitness.specs.Fitness.{sizes_fit}
-use Rattle.opening.specs.declared.OpenOutcome.{OpenOutcome}
-use Rattle.opening.specs.Opening.{open_number, fresh, opened}
-use Rattle.model.specs.Step.{answer_number, event_number, after, run}
+use Rattle.opening.specs.Opening.{fresh, opened}
+use Rattle.model.specs.Step.{event_number, after, run}
 use Rattle.model.specs.Promises.{Kept}
-use Rattle.checking.specs.declared.Outcome.{Outcome}
 use Rattle.replay.specs.Replay.{events_in}
-use Rattle.cells.specs.Cells.{cells_fit, event_cells_fit, cells_event, header_state, header_cents, fresh_state, fresh_cents, head_of}
-
--- ---- for private contracts: what is written of an answer
-
-abbrev pub open_state : Result Unit Refusal → List ℕ → List ℕ
-open_state (Ok tt) state = fresh_state state
-open_state (Err r) state = state
-
-abbrev pub open_cents : Result Unit Refusal → List ℤ → List ℤ
-open_cents (Ok tt) cents = fresh_cents cents
-open_cents (Err r) cents = cents
-
-pub record OpeningPut (a : Result Unit Refusal) (state : List ℕ) (cents : List ℤ) (r : ℕ) (state' : List ℕ) (cents' : List ℤ) : Type 0 where
-  pub answer_is : r ≡ open_number a
-  pub state_is : state' ≡ open_state a state
-  pub cents_is : cents' ≡ open_cents a cents
-
-pub record OutcomePut (o : Outcome) (state : List ℕ) (cents : List ℤ) (r : ℕ) (state' : List ℕ) (cents' : List ℤ) : Type 0 where
-  pub answer_is : r ≡ answer_number o.answer
-  pub state_is : state' ≡ header_state o.header state
-  pub cents_is : cents' ≡ header_cents o.header cents
-
-pub record ReplayPut (o : OpenOutcome) (state : List ℕ) (cents : List ℤ) (r : ℕ) (state' : List ℕ) (cents' : List ℤ) : Type 0 where
-  pub answer_is : r ≡ open_number o.answer
-  pub state_is : state' ≡ header_state o.header state
-  pub cents_is : cents' ≡ header_cents o.header cents
+use Rattle.cells.specs.Cells.{cells_fit, event_cells_fit, cells_event, header_state, header_cents, head_of}
 
 -- ---- the opening
 

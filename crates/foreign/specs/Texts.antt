@@ -5,37 +5,12 @@ use Rattle.refusals.specs.declared.Refusal.TheVariants.{UnfitMemory}
 use Rattle.refusals.specs.Refusals.{number_of}
 use Rattle.digits.specs.Field.{pasted}
 use Rattle.tables.specs.Ledger.{Ledger}
-use Rattle.model.specs.Step.{answer_number, is_accepted}
 use Rattle.run.specs.Run.{Run, end_lines, end_bytes, positions_output}
-use Rattle.listing.specs.declared.ending.Ending.{Ending}
-use Rattle.listing.specs.declared.listing.Listing.{Listing}
 use Rattle.listing.specs.Listing.{end_fits, listed}
 use Rattle.listing.specs.Past.{lines_past, goes_past}
-use Rattle.text.specs.declared.text.Piece.{Piece}
 use Rattle.text.specs.Text.{piece_fits, piece_run, piece_output, text_after}
 use Rattle.cells.specs.declared.Counts.{Counts}
-use Rattle.cells.specs.Cells.{state_cells_fit, cells_fit, lines_in, filled_in, header_state, header_cents, counts_state, written_state, state_cells, head_of}
-
--- ---- for private contracts: what is written of an answer; a refusal leaves the cells as they are
-
-abbrev pub piece_counts : Piece → ℕ → Counts
-piece_counts p past = record { lines = p.lines; partial = p.partial; written = p.written; past = past }
-
-pub record PiecePut (p : Piece) (past : ℕ) (state : List ℕ) (cents : List ℤ) (r : ℕ) (state' : List ℕ) (cents' : List ℤ) : Type 0 where
-  pub answer_is : r ≡ answer_number p.answer
-  pub state_is : state' ≡ cond (is_accepted p.answer) (counts_state (piece_counts p past) (header_state p.header state)) state
-  pub cents_is : cents' ≡ cond (is_accepted p.answer) (header_cents p.header cents) cents
-
-abbrev pub ending_counts : Ending → ℕ → Counts
-ending_counts e past = record { lines = e.lines; partial = 0; written = e.written; past = past }
-
-pub record EndingPut (e : Ending) (past : ℕ) (state : List ℕ) (r : ℕ) (state' : List ℕ) : Type 0 where
-  pub answer_is : r ≡ answer_number e.answer
-  pub state_is : state' ≡ cond (is_accepted e.answer) (counts_state (ending_counts e past) state) state
-
-pub record ListingPut (p : Listing) (state : List ℕ) (r : ℕ) (state' : List ℕ) : Type 0 where
-  pub answer_is : r ≡ answer_number p.answer
-  pub state_is : state' ≡ cond (is_accepted p.answer) (written_state p.bytes state) state
+use Rattle.cells.specs.Cells.{state_cells_fit, cells_fit, lines_in, filled_in, header_cents, counts_state, written_state, state_cells, head_of}
 
 -- ---- a text
 

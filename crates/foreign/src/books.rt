@@ -1,32 +1,16 @@
 // The calls that change the book: opening, an event, a list of events: specs/Books.
-ghost use Rattle.std.specs.Prelude.{◌≡◌};
 ghost use Rattle.tables.specs.Ledger.{ledger};
-ghost use Rattle.opening.specs.Opening.{open_number};
 ghost use Rattle.cells.specs.Cells.{header_in};
-ghost use Rattle.foreign.specs.Books.{OpeningPut, OutcomePut, ReplayPut, OpenCall, EventCall, ReplayCall};
+ghost use Rattle.foreign.specs.Books.{OpenCall, EventCall, ReplayCall};
 
 use crate::UNFIT;
 use book::event::take_event;
 use cells::reading::{cells_fit, event_cells_fit, event_in, header_in};
 use cells::writing::{put_fresh, put_header};
-use checking::Outcome;
-use opening::{OpenOutcome, open_ledger};
-use refusals::{Refusal, number_of};
+use opening::open_ledger;
+use refusals::answer_number;
 use replay::replay::replay;
-use text::text::answer_number;
-
-// The number of an opening's answer; all cells are 0 where it is accepted.
-fn put_opening(answer: Result<(), Refusal>, state: &mut [u64], cents: &mut [i64]) -> u64
-    ensures { OpeningPut answer state.old cents.old result state.new cents.new }
-{
-    match answer {
-        Ok(()) => {
-            put_fresh(state, cents);
-            0
-        }
-        Err(r) => number_of(r),
-    }
-}
+use tables::BookMut;
 
 // Opens the ledger. 0, or 2 where nothing changes: cells of another count, or tables of other sizes.
 pub fn kalanhav_open(
@@ -45,27 +29,22 @@ pub fn kalanhav_open(
     if !cells_fit(state, cents) {
         return UNFIT;
     }
-    let start = open_ledger(
-        header_in(state, cents),
+    let mut header = header_in(state, cents);
+    match open_ledger(
+        &mut header,
         mandates,
         collections,
         creditors,
         creditor_positions,
         debtor_positions,
         bank_positions,
-    );
-    let answer = start.answer;
-    put_opening(answer, state, cents)
-}
-
-// The number of an event's answer; the header after it is written, which a refusal leaves as it was.
-fn put_outcome(outcome: Outcome, state: &mut [u64], cents: &mut [i64]) -> u64
-    ensures { OutcomePut outcome state.old cents.old result state.new cents.new }
-{
-    let header = outcome.header;
-    let answer = outcome.answer;
-    put_header(header, state, cents);
-    answer_number(answer)
+    ) {
+        Ok(()) => {
+            put_fresh(state, cents);
+            0
+        }
+        Err(r) => u64::from(r),
+    }
 }
 
 // Gives one event to the ledger: book's `take_event`. 0, or the number of the refusal, where nothing changes.
@@ -83,40 +62,21 @@ pub fn kalanhav_take_event(
     ensures { EventCall state.old cents.old event.now (ledger (header_in state.old cents.old) mandates.old collections.old creditors.old creditor_positions.old debtor_positions.old bank_positions.old) result
         state.new cents.new (ledger (header_in state.new cents.new) mandates.new collections.new creditors.new creditor_positions.new debtor_positions.new bank_positions.new) }
 {
-    if !(cells_fit(state, cents) & event_cells_fit(event)) {
+    if !(cells_fit(state, cents) && event_cells_fit(event)) {
         return UNFIT;
     }
-    let outcome = take_event(
-        header_in(state, cents),
-        event_in(event),
+    let mut book = BookMut {
+        header: header_in(state, cents),
         mandates,
         collections,
         creditors,
         creditor_positions,
         debtor_positions,
         bank_positions,
-    );
-    put_outcome(outcome, state, cents)
-}
-
-// The number of an opening's answer.
-fn open_number(answer: Result<(), Refusal>) -> u64
-    ensures { result ≡ open_number answer }
-{
-    match answer {
-        Ok(()) => 0,
-        Err(r) => number_of(r),
-    }
-}
-
-// The number of a replay's answer; the header after it is written, which a refusal leaves as it was.
-fn put_replay(outcome: OpenOutcome, state: &mut [u64], cents: &mut [i64]) -> u64
-    ensures { ReplayPut outcome state.old cents.old result state.new cents.new }
-{
-    let header = outcome.header;
-    let answer = outcome.answer;
-    put_header(header, state, cents);
-    open_number(answer)
+    };
+    let answer = take_event(&mut book, event_in(event));
+    put_header(book.header, state, cents);
+    answer_number(&answer)
 }
 
 // Opens the ledger and gives it every event of a list: replay's `replay`. 0, or 2 where nothing changes: cells of
@@ -138,15 +98,16 @@ pub fn kalanhav_replay(
     if !cells_fit(state, cents) {
         return UNFIT;
     }
-    let outcome = replay(
-        header_in(state, cents),
-        events,
+    let mut book = BookMut {
+        header: header_in(state, cents),
         mandates,
         collections,
         creditors,
         creditor_positions,
         debtor_positions,
         bank_positions,
-    );
-    put_replay(outcome, state, cents)
+    };
+    let answer = replay(&mut book, events);
+    put_header(book.header, state, cents);
+    answer_number(&answer)
 }

@@ -15,6 +15,7 @@ pub mod texts;
 use cells::reading::{cells_fit, header_in};
 use fitness::fitness::is_fit;
 use safety::is_safe;
+use tables::BookRef;
 
 // The number of refused memory.
 const UNFIT: u64 = 2;
@@ -32,16 +33,16 @@ pub fn kalanhav_is_fit(
 ) -> bool
     ensures { result ≡ (cells_fit state.now cents.now && fit (ledger (header_in state.now cents.now) mandates.now collections.now creditors.now creditor_positions.now debtor_positions.now bank_positions.now)) }
 {
-    let fit = is_fit(
-        header_in(state, cents),
+    let book = BookRef {
+        header: header_in(state, cents),
         mandates,
         collections,
         creditors,
         creditor_positions,
         debtor_positions,
         bank_positions,
-    );
-    cells_fit(state, cents) & fit
+    };
+    cells_fit(state, cents) && is_fit(&book)
 }
 
 // Whether lent memory is safe: fit, and every position within what the collections have moved.
@@ -57,14 +58,14 @@ pub fn kalanhav_is_safe(
 ) -> bool
     ensures { result ≡ (cells_fit state.now cents.now && is_safe (ledger (header_in state.now cents.now) mandates.now collections.now creditors.now creditor_positions.now debtor_positions.now bank_positions.now)) }
 {
-    let safe = is_safe(
-        header_in(state, cents),
+    let book = BookRef {
+        header: header_in(state, cents),
         mandates,
         collections,
         creditors,
         creditor_positions,
         debtor_positions,
         bank_positions,
-    );
-    cells_fit(state, cents) & safe
+    };
+    cells_fit(state, cents) && is_safe(&book)
 }

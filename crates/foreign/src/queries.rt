@@ -7,6 +7,7 @@ use crate::UNFIT;
 use book::query::position;
 use cells::reading::{cells_fit, header_in};
 use cells::writing::put_query;
+use tables::BookRef;
 
 // A position in cents, written to its cell: book's `position`. 0, or 2 or 5, where nothing changes.
 pub fn kalanhav_position(
@@ -26,16 +27,14 @@ pub fn kalanhav_position(
     if !cells_fit(state, cents) {
         return UNFIT;
     }
-    let answer = position(
-        header_in(state, cents),
-        kind,
-        number,
+    let book = BookRef {
+        header: header_in(state, cents),
         mandates,
         collections,
         creditors,
         creditor_positions,
         debtor_positions,
         bank_positions,
-    );
-    put_query(answer, cents)
+    };
+    put_query(position(&book, kind, number), cents)
 }

@@ -2,57 +2,24 @@
 ghost use Rattle.std.specs.Prelude.{◌≡◌, take};
 ghost use Rattle.tables.specs.Ledger.{ledger};
 ghost use Rattle.listing.specs.Past.{lines_past};
-ghost use Rattle.cells.specs.Cells.{header_in, header_state, header_cents, counts_state};
-ghost use Rattle.foreign.specs.Texts.{piece_counts, end_past, PiecePut, EndingPut, ListingPut, TextCall, EndCall, ListCall};
+ghost use Rattle.cells.specs.Cells.{header_in};
+ghost use Rattle.foreign.specs.Texts.{TextCall, EndCall, ListCall};
 
 use crate::UNFIT;
 use cells::Counts;
 use cells::reading::{cells_fit, filled_in, header_in, lines_in, state_cells_fit};
 use cells::writing::{put_counts, put_header, put_written};
-use listing::ending::{Ending, end_text};
-use listing::listing::{Listing, list_positions};
+use listing::ending::end_text;
+use listing::listing::list_positions;
 use listing::past::{goes_past, lines_past};
-use refusals::number_of;
-use text::text::{Piece, take_text};
+use tables::{BookMut, BookRef};
+use text::text::take_text;
 
 // How many lines of the first bytes of a text are not answered.
 fn past_in(lines: u64, filled: usize, text: &[u8]) -> u64
     ensures { result ≡ lines_past lines (take filled text.now) }
 {
-    if text.len() < filled {
-        return lines_past(lines, text);
-    }
-    lines_past(lines, &text[..filled])
-}
-
-// Writes what a piece leaves.
-fn put_taken(piece: Piece, past: u64, state: &mut [u64], cents: &mut [i64])
-    ensures state { state.new ≡ counts_state (piece_counts piece past) (header_state piece.header state.old) }
-    ensures cents { cents.new ≡ header_cents piece.header cents.old }
-{
-    let header = piece.header;
-    let counts = Counts {
-        lines: piece.lines,
-        partial: piece.partial,
-        written: piece.written,
-        past: past,
-    };
-    put_header(header, state, cents);
-    put_counts(counts, state);
-}
-
-// The number of a piece's answer; what it leaves is written unless it is refused.
-fn put_piece(piece: Piece, past: u64, state: &mut [u64], cents: &mut [i64]) -> u64
-    ensures { PiecePut piece past state.old cents.old result state.new cents.new }
-{
-    let answer = piece.answer;
-    match answer {
-        Ok(()) => {
-            put_taken(piece, past, state, cents);
-            0
-        }
-        Err(r) => number_of(r),
-    }
+    lines_past(lines, text.get(..filled).unwrap_or(text))
 }
 
 // Takes a piece of input: text's `take_text`. 0, or 2 where nothing changes: cells of another count, or a text or a
@@ -75,50 +42,33 @@ pub fn kalanhav_take_text(
     if !cells_fit(state, cents) {
         return UNFIT;
     }
-    let header = header_in(state, cents);
     let lines = lines_in(state);
     let filled = filled_in(state);
     let past = past_in(lines, filled, text);
-    let piece = take_text(
-        header,
-        lines,
-        filled,
-        text,
-        out,
+    let mut book = BookMut {
+        header: header_in(state, cents),
         mandates,
         collections,
         creditors,
         creditor_positions,
         debtor_positions,
         bank_positions,
-    );
-    put_piece(piece, past, state, cents)
-}
-
-// 1 where a partial line stands past the last that is answered, else 0.
-fn end_past(lines: u64, partial: usize) -> u64
-    ensures { result ≡ end_past lines partial }
-{
-    if goes_past(0, lines, partial) { 1 } else { 0 }
-}
-
-// The number of the answer to the end of a text; what it leaves is written unless it is refused.
-fn put_ending(ending: Ending, past: u64, state: &mut [u64]) -> u64
-    ensures { EndingPut ending past state.old result state.new }
-{
-    let answer = ending.answer;
-    match answer {
-        Ok(()) => {
-            let counts = Counts {
-                lines: ending.lines,
-                partial: 0,
-                written: ending.written,
-                past: past,
-            };
-            put_counts(counts, state);
+    };
+    match take_text(&mut book, lines, filled, text, out) {
+        Ok(piece) => {
+            put_header(book.header, state, cents);
+            put_counts(
+                Counts {
+                    lines: piece.lines,
+                    partial: piece.partial,
+                    written: piece.written,
+                    past,
+                },
+                state,
+            );
             0
         }
-        Err(r) => number_of(r),
+        Err(r) => u64::from(r),
     }
 }
 
@@ -132,22 +82,20 @@ pub fn kalanhav_end_text(state: &mut [u64], out: &mut [u8]) -> u64
     }
     let lines = lines_in(state);
     let partial = filled_in(state);
-    let past = end_past(lines, partial);
-    let ending = end_text(lines, partial, out);
-    put_ending(ending, past, state)
-}
-
-// The number of a listing's answer; how many bytes it has is written unless it is refused.
-fn put_listing(listing: Listing, state: &mut [u64]) -> u64
-    ensures { ListingPut listing state.old result state.new }
-{
-    let answer = listing.answer;
-    match answer {
-        Ok(()) => {
-            put_written(listing.bytes, state);
+    match end_text(lines, partial, out) {
+        Ok(ending) => {
+            put_counts(
+                Counts {
+                    lines: ending.lines,
+                    partial: 0,
+                    written: ending.written,
+                    past: u64::from(goes_past(0, lines, partial)),
+                },
+                state,
+            );
             0
         }
-        Err(r) => number_of(r),
+        Err(r) => u64::from(r),
     }
 }
 
@@ -169,15 +117,20 @@ pub fn kalanhav_list_positions(
     if !cells_fit(state, cents) {
         return UNFIT;
     }
-    let listing = list_positions(
-        header_in(state, cents),
+    let book = BookRef {
+        header: header_in(state, cents),
         mandates,
         collections,
         creditors,
         creditor_positions,
         debtor_positions,
         bank_positions,
-        out,
-    );
-    put_listing(listing, state)
+    };
+    match list_positions(&book, out) {
+        Ok(written) => {
+            put_written(written, state);
+            0
+        }
+        Err(r) => u64::from(r),
+    }
 }

@@ -1,25 +1,20 @@
--- Laws of specs/Queries: the query over lent cells, from the book's. To cite: `query_refused`, `query_done`. Assumes nothing.
+-- Laws of specs/Queries: the query over lent cells, from the book's. To cite: `query_done`. Assumes nothing.
 use Rattle.std.proofs.Common.{Result, ℤ}
-use mathlib.Core.Path.{◌≡◌, refl, ap, subst, ◌∙◌}
+use mathlib.Core.Path.{◌≡◌, refl, ap, ◌∙◌}
 use mathlib.Core.Bool.{Bool, true, false, cond, ◌&&◌}
 use mathlib.Core.List.{List}
 use Prim.Native.Nat.{ℕ}
 use lib.IntN.{ℤ}
 use lib.ListN.{set}
-use Rattle.tables.specs.declared.Header.{Header}
+use Rattle.refusals.specs.declared.Refusal.{Refusal}
 use Rattle.tables.specs.Ledger.{Ledger}
 use Rattle.fitness.specs.Fitness.{fit}
 use Rattle.model.specs.Step.{in_query, figure_of, query, query_number}
 use Rattle.book.specs.Events.{Queried}
-use Rattle.cells.specs.Cells.{cells_fit, header_in, figure_cents, head_of}
+use Rattle.cells.specs.Cells.{cells_fit, figure_cents}
 use Rattle.foreign.specs.Queries.{QueryCall}
-use Rattle.foreign.proofs.Laws.Books.{under}
-use Rattle.refusals.specs.declared.Refusal.{Refusal}
 
 module _ (state : List ℕ) (cents : List ℤ) (l : Ledger) (kind number : ℕ) where
-  pub query_refused : cells_fit state cents ≡ false → QueryCall state cents l kind number 2 cents
-  query_refused f = record { answer_is = rw f; cents_is = rw f; number_is = rw f; figure_is = rw f }
-
   -- the figure goes to its cell where the query is answered
   figure_put :
       (fits within : Bool) → fit l ≡ fits → in_query kind number ≡ within
@@ -31,12 +26,10 @@ module _ (state : List ℕ) (cents : List ℤ) (l : Ledger) (kind number : ℕ) 
 
   pub query_done :
       cells_fit state cents ≡ true
-      → (h : Header) → h ≡ header_in state cents → header_in state cents ≡ head_of l
-      → (a : Result ℤ Refusal) → Queried (under h l) kind number a
+      → (a : Result ℤ Refusal) → Queried l kind number a
       → (r : ℕ) (cents' : List ℤ) → r ≡ query_number a → cents' ≡ figure_cents a cents
       → QueryCall state cents l kind number r cents'
-  query_done f h hi held a queried r cents' n z =
-      let q = subst (λ (x : Header). Queried (under x l) kind number a) (hi ∙ held) queried in
+  query_done f a q r cents' n z =
       let put = z ∙ ap (λ (x : Result ℤ Refusal). figure_cents x cents) q.answer_is in
       record {
         answer_is = rw f (n ∙ ap query_number q.answer_is);

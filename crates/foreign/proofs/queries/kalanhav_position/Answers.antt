@@ -1,39 +1,8 @@
--- `kalanhav_position` meets its contract: refused for the count of the cells, or what `position` answered. Assumes nothing.
-use Rattle.foreign.proofs.Laws.Queries.{query_refused, query_done}
-use Rattle.cells.specs.Cells.{header_in}
-use Rattle.tables.specs.Ledger.{Ledger, ledger}
-use mathlib.Core.Path.{refl, sym, ◌∙◌}
+use Rattle.std.proofs.Common.{sym, ◌∙◌}
+use Rattle.foreign.proofs.Laws.Queries.{query_done}
 use Rattle.foreign.proofs.queries.kalanhav_position.Goals as goal
-
-pub returns-then-not-cells_fit : goal.returns-then-not-cells_fit
-returns-then-not-cells_fit c =
-    let book : Ledger = ledger
-    (header_in c.args.state.now c.args.cents.now)
-    c.args.mandates.now
-    c.args.collections.now
-    c.args.creditors.now
-    c.args.creditor_positions.now
-    c.args.debtor_positions.now
-    c.args.bank_positions.now in
-    let s = c in
-    query_refused s.args.state.now s.args.cents.now book s.args.kind s.args.number
-    (sym c.cells_fit.ensures ∙ c.if-not-cells_fit.true)
 
 pub returns : goal.returns
 returns c =
-    let book : Ledger = ledger
-    (header_in c.args.state.now c.args.cents.now)
-    c.args.mandates.now
-    c.args.collections.now
-    c.args.creditors.now
-    c.args.creditor_positions.now
-    c.args.debtor_positions.now
-    c.args.bank_positions.now in
-    let read = c in
-    let test = read in
-    let s = test in
-    query_done s.args.state.now s.args.cents.now book s.args.kind s.args.number
-    (sym test.cells_fit.ensures ∙ test.if-not-cells_fit.false)
-    read.header_in.result read.header_in.ensures refl
-    c.position-answer.result c.position-answer.ensures
+    query_done _ _ _ _ _ (sym c.cells_fit.ensures ∙ c.if-not-cells_fit.false) _ (rw c.header_in.ensures at c.position.ensures)
     _ _ c.put_query.ensures.number c.put_query.ensures.cents
