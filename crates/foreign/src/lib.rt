@@ -1,5 +1,6 @@
 // The ledger for programs in C or Rust: functions on numbers and slices, for any sizes and any content. A slice passes as
-// a pointer and a length. What stands in which cell: crates/cells/specs/Cells.
+// a pointer and a length, and so the tables come one by one, and each call makes a book of them: the C interface needs it. What stands in
+// which cell: crates/cells/specs/Cells.
 #![tactic(auto)]
 
 ghost use Rattle.std.specs.Prelude.{◌≡◌, ◌&&◌};
