@@ -52,13 +52,6 @@ impl From<Refusal> for u64 {
     }
 }
 
-// The number of a refusal.
-pub fn number_of(r: Refusal) -> u64
-    ensures { result ≡ number_of r }
-{
-    u64::from(r)
-}
-
 // What comes of one test: a refusal where it is not passed.
 pub fn ensure(passed: bool, refusal: Refusal) -> Result<(), Refusal>
     ensures { result ≡ cond passed (Ok tt) (Err refusal) }
