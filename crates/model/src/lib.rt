@@ -50,4 +50,3 @@ pub enum Action {
     Collect(Presentation),
     Treat(u64, Treatment),
 }
-
