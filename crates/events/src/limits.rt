@@ -7,7 +7,7 @@ use calendar::gregorian::in_range;
 use common::{AMOUNT_LIMIT, BANKS, CREDITORS, DEBTORS, NUMBER_LIMIT, RATE_LIMIT};
 use refusals::{Refusal, ensure};
 
-// A range of numbers, both ends included.
+// A range of numbers, both ends included. It is copied with its row, as a RangeInclusive is not.
 #[derive(Clone, Copy, Debug, PartialEq, Eq)]
 pub struct Range {
     pub low: u64,
@@ -199,6 +199,7 @@ fn row_in(rows: &[Row], kind: u64, code: u64) -> Option<Row>
 }
 
 // The limits of the events of a kind with a code.
+#[tactic(auto, using(crate::proofs::Laws::Limits::row_in_find), unfolding(crate::specs::Limits::row_of, crate::specs::Limits::table))]
 pub fn row_of(kind: u64, code: u64) -> Option<Row>
     ensures { result ≡ row_of kind code }
 {

@@ -1,14 +1,14 @@
--- Laws of specs/Answers. Names: F-no-entry, F-too-large and F-made give the answer of F and the table after it.
+-- Laws of specs/Answers. Names: F_no_entry, F_too_large and F_made give the answer of F and the table after it. The same by the code's steps: answer_ and
+-- table_ for `post`, transfer_ and tables_ for `transfer`.
 -- To cite: `post_fits` and `transfer_fits` (a posting within capacity is made), `settlement_of_is`, `reversed_of_is`,
 -- `refunded_of_is`. Assumes nothing.
-use Rattle.std.proofs.Common.{None, Some, Ok, Err}
+use Rattle.std.proofs.Common.{Some, Ok, Err}
 use mathlib.Core.Path.{◌≡◌, refl, sym, ◌∙◌, ap}
 use mathlib.Core.Bool.{Bool, true, false, cond, ◌&&◌}
 use mathlib.Core.List.{List}
 use Prim.Native.Nat.{ℕ, ◌-◌, ◌<◌, ◌≤◌}
 use native.Mathlib.Omega.{arith}
-use borrow.Author.Tests.{le-leb, lt-leb}
-use lib.Dec.{leb}
+use borrow.Author.Tests.{le-leb}
 use lib.IntN.{ℤ, pos, neg_ℤ, nat_abs, ◌+ℤ◌, ◌-ℤ◌}
 use lib.ListN.{length, get_or, set}
 use mir.Syntax.{w64}
@@ -26,7 +26,7 @@ use Rattle.positions.proofs.Laws.Integers.{size_add, size_neg, within_size, size
 use Rattle.positions.proofs.Laws.Positions.{has_entry_entry, entry_has_entry, entry_posted, position_index, position_none, posted_index}
 use Rattle.positions.proofs.Laws.Positions.{position_posted_same, transferred_posted, size_posted, size_transferred}
 
--- ---- the answers of the code's two steps: the index of an entry, and a sum
+-- ---- the answers of the code's two steps: the index of an entry, and whether the sizes fit
 
 ok_is : {A E : Type 0} (t : Bool) (v a : A) (e : E) → cond t (Ok v) (Err e) ≡ Ok a → (t ≡ true) × (a ≡ v)
 ok_is true v a e p = (refl, cc)
@@ -261,12 +261,14 @@ module _ (l : List ℤ) (from to : ℕ) (x : ℤ) where
       half_cell = sym (position_at half to j half_index) ∙ ap (λ (n : List ℤ). position n to) half_posted
 
       -- 64 bits hold the first new position, the cell before the second, and the second
-      pub first_back : to_z w64 (of_z w64 (get_or l i (pos 0) -ℤ x)) ≡ get_or l i (pos 0) -ℤ x
-      first_back =
+      pub first_fits : SFits w64 (get_or l i (pos 0) -ℤ x)
+      first_fits =
           let h = sizes_small sizes in
-          to_z-of_z
-          (size_fits (get_or l i (pos 0) +ℤ neg_ℤ x)
-          (omega (arith, size_add (get_or l i (pos 0)) (neg_ℤ x), size_neg x, ap nat_abs (position_at l from i p))))
+          size_fits (get_or l i (pos 0) +ℤ neg_ℤ x)
+          (omega (arith, size_add (get_or l i (pos 0)) (neg_ℤ x), size_neg x, ap nat_abs (position_at l from i p)))
+
+      pub first_back : to_z w64 (of_z w64 (get_or l i (pos 0) -ℤ x)) ≡ get_or l i (pos 0) -ℤ x
+      first_back = to_z-of_z first_fits
 
       pub half_back : to_z w64 (of_z w64 (get_or (set l i (get_or l i (pos 0) -ℤ x)) j (pos 0))) ≡ get_or (set l i (get_or l i (pos 0) -ℤ x)) j (pos 0)
       half_back =
@@ -308,22 +310,10 @@ pub settlement_of_is : (A : ℕ) → A ≤ amount_limit → settlement_of A ≡ 
 unfolding settlement_of
 settlement_of_is A h = rw (le-leb A amount_limit h)
 
-pub settlement_of_outside : (A : ℕ) → amount_limit < A → settlement_of A ≡ None
-unfolding settlement_of
-settlement_of_outside A h = rw (lt-leb A amount_limit h)
-
 pub reversed_of_is : (A : ℕ) → A ≤ amount_limit → reversed_of A ≡ Some (reversed A)
 unfolding reversed_of
 reversed_of_is A h = rw (le-leb A amount_limit h)
 
-pub reversed_of_outside : (A : ℕ) → amount_limit < A → reversed_of A ≡ None
-unfolding reversed_of
-reversed_of_outside A h = rw (lt-leb A amount_limit h)
-
 pub refunded_of_is : (A K : ℕ) → A ≤ amount_limit → K ≤ compensation_limit → refunded_of A K ≡ Some (refunded A K)
 unfolding refunded_of
 refunded_of_is A K h k = rw (le-leb A amount_limit h, le-leb K compensation_limit k)
-
-pub refunded_of_outside : (A K : ℕ) → leb A amount_limit && leb K compensation_limit ≡ false → refunded_of A K ≡ None
-unfolding refunded_of
-refunded_of_outside A K e = rw e

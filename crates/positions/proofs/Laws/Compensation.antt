@@ -131,7 +131,3 @@ compensation_of_cents a r d k e = by_test (in_limits a r d) refl e
         → InLimits a r d × (k ≡ compensation a r d)
     by_test true q p = (in_limits_parts a r d q, cc)
     by_test false q p = let z : ◌≡◌ {A = ℕ} 0 1 = cc in absurd (omega arith)
-
-pub compensation_of_outside : (a r d : ℕ) → in_limits a r d ≡ false → compensation_of a r d ≡ None
-unfolding compensation_of
-compensation_of_outside a r d e = rw e
