@@ -10,7 +10,7 @@ use positions::posting::position_of;
 use refusals::Refusal;
 use tables::BookRef;
 
-// Refusal 5: whether there is such a kind and such a number of it.
+// Refusal 5: whether there is such a kind and such a number of it. The kind is a number, as C and a line have it: any may be asked for.
 fn in_query(kind: u64, number: u64) -> bool
     ensures { result ≡ in_query kind number }
 {

@@ -108,6 +108,7 @@ fn mandate_row_fit(creditors: &[u64], cells: &[u64], row: usize) -> bool
     mandate_fit(creditors, &cells[b..b + STRIDE])
 }
 
+// One line, like `collections_fit`: with the test of a row as a parameter both would be as long.
 fn mandates_fit(creditors: &[u64], cells: &[u64], used: usize) -> bool
     requires { used ≤ rows cells.now }
     ensures { result ≡ rows_fit (mandate_fit creditors.now) cells.now used }

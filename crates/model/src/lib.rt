@@ -14,7 +14,7 @@ pub enum Change {
 }
 
 // A collection to be presented: the numbers of its mandate and its own, the amount in cents, the requested due date, the
-// sequence code.
+// sequence code. Codes are numbers, no enums, here and below: an action is told of any event, one with any code too.
 #[derive(Clone, Copy)]
 pub struct Presentation {
     pub mandate: u64,

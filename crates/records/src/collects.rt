@@ -30,7 +30,7 @@ fn takes_code(m: Mandate, code: u64) -> bool
     (code == 1) | (code == 2)
 }
 
-// Refusals 6 to 12 of a collect on the mandate m, which is there or not.
+// Refusals 6 to 12 of a collect on the mandate m, which is there or not: beside it, no Option of it, as in `judge_change`.
 fn judge_terms(
     book: &BookMut,
     date: u64,

@@ -72,6 +72,8 @@ fn names_added(change: Change, creditors: &[u64]) -> bool
     }
 }
 
+// `there` stands beside the mandate, no Option of it: a later test is to see a mandate too where none is there, so that which tests are
+// made does not depend on an earlier one; an Option would be no plainer.
 fn judge_change(
     book: &BookMut,
     date: u64,

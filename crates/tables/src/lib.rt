@@ -69,7 +69,8 @@ pub enum Standing {
 }
 
 // A mandate: `bank` is the debtor's, `signed` the signing date, `code` 0 recurrent and 1 one-off, `first` whether FRST
-// is due, `presented` the kept due last presented, 0 if none.
+// is due, `presented` the kept due last presented, 0 if none. The code is a number, no enum: lent memory may hold any, and a change of the
+// mandate keeps it.
 #[derive(Clone, Copy)]
 pub struct Mandate {
     pub number: u64,

@@ -115,7 +115,8 @@ fn treated(t: Treatment, date: u64, k: Collection) -> Collection
     }
 }
 
-// Refusals 6 to 16, of the collection in the row that was found.
+// Refusals 6 to 16, of the collection in the row that was found. `there` stands beside it, no Option of it: a later test is to see a
+// collection too where none is there, so that which tests are made does not depend on an earlier one; an Option would be no plainer.
 fn judge_first(
     latest: u64,
     date: u64,
