@@ -2,7 +2,7 @@
 """What crates/tables_cases must write, worked out from document 01 with no look at the crates `tables`, `fitness` and `opening`.
 
 Run from the repository's root: tests/tables_oracle.py > crates/tables_cases/stdout
-The calls are taken from the program's text; the ledger that they change, that of `lent` there, is stated anew below. A row is a
+The tables of cases are taken from the program's text; the ledger that they change, that of `lent` there, is stated anew below. A row is a
 dictionary of fields here, and the numbers of its columns are the oracle's own."""
 import datetime
 import re
@@ -99,80 +99,74 @@ def lent():
     return m
 
 
-# ---- the calls, by their names in the program; each gives the numbers of its lines
+# ---- the cases, by the table that they stand in or by what they change; each gives the numbers of its lines
 
-def rows_case(_, mandate_cells, collection_cells):
+def row_count(mandate_cells, collection_cells):
     return [answer(empty(mandate_cells, collection_cells))]
 
 
-def parties_case(_, __, *parties):
+def party_sizes(*parties):
     return [answer(empty(STRIDE, STRIDE, parties))]
 
 
-def header_case(latest, mandates, collections, cents):
+def header(latest, mandates, collections, cents):
     m = lent()
     m.latest, m.mandates_used, m.collections_used, m.compensation = latest, mandates, collections, cents
     return [answer(m)]
 
 
-def mandate_case(cell, value):
+def mandate_cell(cell, value):
     m = lent()
     m.mandates[cell // STRIDE][MANDATE[cell % STRIDE]] = value
     return [answer(m)]
 
 
-def collection_case(cell, value):
+def collection_cell(cell, value):
     m = lent()
     m.collections[cell // STRIDE][COLLECTION[cell % STRIDE]] = value
     return [answer(m)]
 
 
-def party_case(entry, bank, creditor, debtor, other):
+def party(entry, bank, creditor, debtor, other):
     m = lent()
     m.banks_of[entry], m.creditors[entry], m.debtors[-1], m.banks[-1] = bank, creditor, debtor, other
     return [answer(m)]
 
 
-def lookup_case(_, used, number):
+def lookup(used, number):
     """Among the rows of `lent` and a second one of 70: the lowest used row, 9 where there is none."""
     rows = lent_collections() + [collection(70, PRESENTED)]
     return [next((at for at, row in enumerate(rows[:used]) if row["NUMBER"] == number), 9)]
 
 
-def open_case(mandate_cells, rubbish, bank):
-    """The opening's answer, and that to the memory after it: opening looks at row counts and sizes alone."""
+def opening(mandate_cells):
+    """The opening's answer over rubbish, and that to the memory after it: opening looks at row counts and sizes alone."""
     m = empty(mandate_cells, COLLECTIONS * STRIDE)
-    m.latest, m.mandates_used, m.collections_used, m.compensation = rubbish
+    m.latest, m.mandates_used, m.collections_used, m.compensation = 77, 900, 900, -5
     m.collections = lent_collections()
-    m.banks_of[3], m.creditors[255], m.debtors[0], m.banks[9] = bank, LIMIT + 1, -1, LIMIT + 1
+    m.banks_of[3], m.creditors[255], m.debtors[0], m.banks[9] = 99, LIMIT + 1, -1, LIMIT + 1
     opened = sizes_fit(m)
     after = empty(m.mandate_cells, m.collection_cells) if opened else m
     return [0 if opened else 2, answer(after)]
 
 
-CALLS = dict(rows_case=rows_case, parties_case=parties_case, header_case=header_case, mandate_case=mandate_case,
-             collection_case=collection_case, party_case=party_case, lookup_case=lookup_case, open_case=open_case)
-NAMES = dict(STRIDE=STRIDE, LIMIT=LIMIT, MANDATES=MANDATES, cells=None, zeros=None, collections=None, rubbish=(77, 900, 900, -5),
+TABLES = dict(ROW_COUNTS=row_count, PARTY_SIZES=party_sizes, LOOKUPS=lookup, OPENINGS=opening)
+CHANGES = dict(Header=header, Mandate=mandate_cell, Collection=collection_cell, Party=party)
+NAMES = dict(STRIDE=STRIDE, LIMIT=LIMIT, MANDATES=MANDATES,
              mandate_column=SimpleNamespace(**{name: at for at, name in enumerate(MANDATE)}),
              collection_column=SimpleNamespace(**{name: at for at, name in enumerate(COLLECTION)}))
 
 
 def arguments(text):
-    """A slice is known by its size."""
-    sized = re.sub(r"&\[\d+u64; ([^]]*)\]", r"\1", text)
-    return eval(f"({sized.replace('&', '').replace('::', '.')},)", {"__builtins__": {}}, NAMES)
-
-
-def body(text, name):
-    return re.search(rf"^fn {name}\([^)]*\)[^{{]* \{{\n(.*?)^\}}", text, re.M | re.S).group(1)
+    return eval(f"({text.strip().rstrip(',')},)".replace("::", "."), {"__builtins__": {}}, NAMES)
 
 
 def main():
     with open("crates/tables_cases/src/main.rt", encoding="utf-8") as file:
         text = file.read()
-    for part in re.findall(r"^    (\w+)\(&rt[^)]*\)", body(text, "main"), re.M):
-        for call, name, values in re.findall(r'(\w+_case)\(\s*rt,\s*"([^"]*)",(.*?),?\s*\)(?:\?;|$)', body(text, part), re.S):
-            first, *more = CALLS[call](*arguments(values.strip()))
+    for table, cases in re.findall(r"^const (\w+): \[\(&str, [^=]*= \[\n(.*?)^\];", text, re.M | re.S):
+        for name, change, values in re.findall(r'\(\s*"([^"]*)",\s*(?:Change::(\w+)\()?([^()]*)\)', cases):
+            first, *more = (CHANGES[change] if change else TABLES[table])(*arguments(values))
             print(f"{name}: {first}")
             for number in more:
                 print(f"and the memory after it: {number}")
