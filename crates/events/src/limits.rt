@@ -182,7 +182,7 @@ const TABLE: [Row; 11] = [
 
 impl Range {
     // Whether x lies in the range.
-    pub fn contains(self, x: u64) -> bool
+    fn contains(self, x: u64) -> bool
         ensures { result ≡ within self x }
     {
         self.low <= x && x <= self.high
