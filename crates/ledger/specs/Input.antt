@@ -1,38 +1,30 @@
 -- The program's input. Nothing says which bytes `read` gives; what is said is that there are bytes of which the run of
 -- crates/run/specs/Run makes what the program hands on. Assumes nothing.
-use Rattle.std.specs.Prelude.{◌≡◌, Bool, true, false, List, ℕ, ◌+◌, ◌*◌, ◌≤◌, ◌<◌, length, take}
+use Rattle.std.specs.Prelude.{◌≡◌, Bool, List, ℕ, ◌+◌, ◌*◌, ◌≤◌, ◌<◌, length, take, Result, Ok, Err, IfOk}
 use Rattle.digits.specs.Field.{pasted}
 use Rattle.tables.specs.Ledger.{Ledger}
 use Rattle.report.specs.Layout.{answer_length}
 use Rattle.run.specs.Run.{Run, run_at, take_text}
 use Rattle.listing.specs.Past.{lines_past, goes_past}
 use Rattle.text.specs.Text.{piece_run, piece_output}
-use Rattle.streams.specs.declared.Got.{Got}
-use Rattle.streams.specs.declared.Got.TheVariants.{Bytes, End, Failed}
+use Rattle.streams.specs.declared.StreamFailed.{StreamFailed}
 use Rattle.ledger.specs.declared.Stage.{Stage}
 
--- ---- a read behind the first `partial` bytes: how many there are then, and whether it did not fail, by what it said
+-- ---- a read behind the first `partial` bytes: how many there are then, unless it failed
 
-abbrev pub filled_after : ℕ → Got → ℕ
-filled_after partial (Bytes n) = partial + n
-filled_after partial End = partial
-filled_after partial Failed = partial
+abbrev pub filled_after : ℕ → Result ℕ StreamFailed → Result ℕ StreamFailed
+filled_after partial (Ok n) = Ok (partial + n)
+filled_after partial (Err e) = Err e
 
-abbrev pub did_not_fail : Got → Bool
-did_not_fail (Bytes n) = true
-did_not_fail End = true
-did_not_fail Failed = false
-
-pub record FilledBy (partial : ℕ) (got : Got) (bytes : ℕ) (whole : Bool) : Type 0 where
-  pub bytes_are : bytes ≡ filled_after partial got
-  pub whole_is : whole ≡ did_not_fail got
-
--- bytes were put behind the first `partial`, which are as they were; now there are `filled`
-
-pub record Behind (partial : ℕ) (text : List ℕ) (filled : ℕ) (text' : List ℕ) : Type 0 where
-  pub front : take partial text' ≡ take partial text
+-- so many bytes are in a text, and none of the first `partial` is gone
+pub record Filled (partial filled long : ℕ) : Type 0 where
   pub onward : partial ≤ filled
-  pub inside : filled ≤ length text'
+  pub inside : filled ≤ long
+
+-- bytes were put behind the first `partial`, which are as they were; where the read did not fail, so many are there now
+pub record Behind (partial : ℕ) (text : List ℕ) (r : Result ℕ StreamFailed) (text' : List ℕ) : Type 0 where
+  pub front : take partial text' ≡ take partial text
+  pub filled : IfOk r (λ n. Filled partial n (length text'))
 
 -- ---- a turn: the first `filled` bytes of the text are given to the run
 
@@ -53,7 +45,6 @@ pub record Turned (l : Ledger) (p : Stage) (filled : ℕ) (text out : List ℕ) 
   pub written_is : r.written ≡ length (piece_output l p.lines filled text)
   pub out_is : out' ≡ pasted 0 (piece_output l p.lines filled text) out
   pub past_is : r.beyond ≡ passes p.lines (take filled text) (piece_run l p.lines filled text)
-  pub whole_is : r.whole ≡ p.whole
 
 -- ---- the whole input: some bytes take the run from the start to what is handed on
 

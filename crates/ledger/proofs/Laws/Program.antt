@@ -1,6 +1,6 @@
--- Laws of specs/Program. To cite: `begins_opened`, `rows_lent`; `last_inside`, `last_total`, `finished_made`, `finished_output`; `room_after`,
+-- Laws of specs/Program. To cite: `begins_opened`, `rows_lent`; `listing_taken`, `last_total`, `finished_made`; `room_after`,
 -- `shown_after`. Assumes nothing.
-use Rattle.std.proofs.Common.{Ok, Result}
+use Rattle.std.proofs.Common.{Ok, Err, Result, IfOk}
 use mathlib.Core.Path.{◌≡◌, refl, sym, ap, subst, ◌∙◌}
 use mathlib.Core.Bool.{Bool, true, false, cond}
 use mathlib.Core.List.{List, [], ◌++◌, append-nil}
@@ -24,9 +24,8 @@ use Rattle.opening.proofs.Laws.Opening.{opening_done, opened_done}
 use Rattle.model.specs.Step.{in_query, query, query_number}
 use Rattle.model.proofs.Laws.Answers.{query_answers, opening_answers}
 use Rattle.listing.specs.declared.ending.Ending.{Ending}
-use Rattle.listing.specs.declared.listing.Listing.{Listing}
 use Rattle.report.specs.Layout.{answer_length, answer_line}
-use Rattle.listing.specs.Listing.{end_fits, EndTaken, listing_room, listed, Listed}
+use Rattle.listing.specs.Listing.{end_fits, ended, EndTaken, listing_room, listed, Listed}
 use Rattle.run.specs.Run.{Run, run_at, take_text, ends_line, end_bytes, end_output, positions_output}
 use Rattle.run.specs.Lines.{answered_lines}
 use Rattle.run.specs.Promises.{TextKept}
@@ -40,6 +39,7 @@ use Rattle.ledger.specs.Input.{InputTaken}
 use Rattle.ledger.specs.Program.{mandate_rows, collection_rows, Begins, LastRoom, last_output, Finished, Shown}
 use Rattle.ledger.proofs.Laws.Input.{front_length, less_le}
 use Rattle.refusals.specs.declared.Refusal.{Refusal}
+use Rattle.streams.specs.declared.StreamFailed.{StreamFailed}
 
 -- ---- the start
 
@@ -74,67 +74,74 @@ last_short lines partial = by_test (ends_line lines partial)
     by_test true = omega (arith, length_answer_line (lines + 1) 1)
     by_test false = omega arith
 
-module _ (l : Ledger) (lines partial : ℕ) (out : List ℕ) (h : LastRoom l out) (e : Ending) (out' : List ℕ) (t : EndTaken lines partial out e out') where
+module _ (l : Ledger) (lines partial : ℕ) (out : List ℕ) (h : LastRoom l out) (e : Result Ending Refusal) (out' : List ℕ) (t : EndTaken lines partial out e out') where
   ends : end_fits out ≡ true
   ends = le-leb answer_length (length out) (omega (arith, h.room))
 
-  written_is : e.written ≡ length (end_bytes lines partial)
-  written_is = rw ends at t.written_is
+  -- the buffer has room for the answer
+  end_taken : e ≡ Ok (ended lines partial)
+  end_taken = rw ends at t.answer_is
 
   answered_is : out' ≡ pasted 0 (end_bytes lines partial) out
   answered_is = rw ends at t.out_is
 
-  pub last_inside : e.written ≤ length out'
-  last_inside = omega (arith, written_is, ap length answered_is, front_length (end_bytes lines partial) out)
+  module _ (end : Ending) (is : e ≡ Ok end) where
+    written_is : end.written ≡ length (end_bytes lines partial)
+    written_is = ap (λ (r : Ending). r.written) (let same : end ≡ ended lines partial = cc end_taken in same)
 
-  module _ (same : length out' ≡ length out) (r : Listing) (part : List ℕ) (s : Listed l (take (length out' - e.written) (drop e.written out')) r part) where
-    abbrev behind : List ℕ
-    behind = drop e.written out'
+    last_inside : end.written ≤ length out'
+    last_inside = omega (arith, written_is, ap length answered_is, front_length (end_bytes lines partial) out)
 
-    rest_is : take (length out' - e.written) behind ≡ behind
-    rest_is = part_to_end out' e.written
+    module _ (same : length out' ≡ length out) (r : Result ℕ Refusal) (part : List ℕ) (s : Listed l (take (length out' - end.written) (drop end.written out')) r part) where
+      abbrev behind : List ℕ
+      behind = drop end.written out'
 
-    listing_fits : listed l behind ≡ true
-    listing_fits =
-        let n = length-drop e.written out' in
-        let room = le-leb listing_room (length behind) (omega (arith, h.room, same, written_is, last_short lines partial)) in
-        sym (listed_is l behind (fit l) (leb listing_room (length behind)) refl refl) ∙ and_true h.fits room
+      rest_is : take (length out' - end.written) behind ≡ behind
+      rest_is = part_to_end out' end.written
 
-    taken : Listed l behind r part
-    taken = subst (λ (x : List ℕ). Listed l x r part) rest_is s
+      listing_fits : listed l behind ≡ true
+      listing_fits =
+          let n = length-drop end.written out' in
+          let room = le-leb listing_room (length behind) (omega (arith, h.room, same, written_is, last_short lines partial)) in
+          sym (listed_is l behind (fit l) (leb listing_room (length behind)) refl refl) ∙ and_true h.fits room
 
-    bytes_are : r.bytes ≡ length (positions_output l)
-    bytes_are = rw listing_fits at taken.bytes_are
+      taken : Listed l behind r part
+      taken = subst (λ (x : List ℕ). Listed l x r part) rest_is s
 
-    part_is : part ≡ pasted 0 (positions_output l) behind
-    part_is = rw listing_fits at taken.out_is
+      -- and for the listing behind it
+      pub listing_taken : r ≡ Ok (length (positions_output l))
+      listing_taken = rw listing_fits at taken.answer_is
 
-    pub last_total : e.written + r.bytes ≤ answer_length + listing_room
-    last_total = omega (arith, written_is, last_short lines partial, bytes_are, length_positions_output l)
+      part_is : part ≡ pasted 0 (positions_output l) behind
+      part_is = rw listing_fits at taken.out_is
 
-    -- the buffer with the listing behind the answer
-    pub finished_made : Finished l lines partial out (e.written + r.bytes) (put_mid e.written (length out' - e.written) out' part)
-    finished_made =
-        let x = end_bytes lines partial in
-        let y = positions_output l in
-        let z : length x ≡ 0 + length x = omega arith in
-        let w : 0 + length y ≡ length y = omega arith in
-        record {
-          bytes_are = ap (λ (n : ℕ). n + r.bytes) written_is ∙ ap (λ (n : ℕ). length x + n) bytes_are ∙ sym (length-append x y);
-          out_is =
-              ap (λ (z : List ℕ). take e.written out' ++ (part ++ z)) (Post-is e.written (length out') out' last_inside ∙ drop-length out')
-              ∙ ap (λ (z : List ℕ). take e.written out' ++ z) (append-nil part ∙ part_is)
-              ∙ ap (λ (z : List ℕ). take e.written out' ++ (y ++ z)) (ap (λ (n : ℕ). drop n behind) w ∙ drop-drop (length y) e.written out')
-              ∙ ap (λ (n : ℕ). pasted n y out') written_is
-              ∙ ap (pasted (length x) y) answered_is
-              ∙ ap (λ (n : ℕ). pasted n y (pasted 0 x out)) z
-              ∙ pasted_pasted 0 x out y (omega arith);
-        }
+      module _ (bytes : ℕ) (b : r ≡ Ok bytes) where
+        bytes_are : bytes ≡ length (positions_output l)
+        bytes_are = cc listing_taken
+
+        pub last_total : end.written + bytes ≤ answer_length + listing_room
+        last_total = omega (arith, written_is, last_short lines partial, bytes_are, length_positions_output l)
+
+        -- the buffer with the listing behind the answer
+        pub finished_made : Finished l lines partial out (end.written + bytes) (put_mid end.written (length out' - end.written) out' part)
+        finished_made =
+            let x = end_bytes lines partial in
+            let y = positions_output l in
+            let z : length x ≡ 0 + length x = omega arith in
+            let w : 0 + length y ≡ length y = omega arith in
+            record {
+              bytes_are = ap (λ (n : ℕ). n + bytes) written_is ∙ ap (λ (n : ℕ). length x + n) bytes_are ∙ sym (length-append x y);
+              out_is =
+                  ap (λ (z : List ℕ). take end.written out' ++ (part ++ z)) (Post-is end.written (length out') out' last_inside ∙ drop-length out')
+                  ∙ ap (λ (z : List ℕ). take end.written out' ++ z) (append-nil part ∙ part_is)
+                  ∙ ap (λ (z : List ℕ). take end.written out' ++ (y ++ z)) (ap (λ (n : ℕ). drop n behind) w ∙ drop-drop (length y) end.written out')
+                  ∙ ap (λ (n : ℕ). pasted n y out') written_is
+                  ∙ ap (pasted (length x) y) answered_is
+                  ∙ ap (λ (n : ℕ). pasted n y (pasted 0 x out)) z
+                  ∙ pasted_pasted 0 x out y (omega arith);
+            }
 
 module _ (l : Ledger) (lines partial : ℕ) (out : List ℕ) (bytes : ℕ) (out' : List ℕ) (f : Finished l lines partial out bytes out') where
-  pub finished_output : bytes ≤ length out'
-  finished_output = omega (arith, f.bytes_are, ap length f.out_is, front_length (last_output l lines partial) out)
-
   finished_front : take bytes out' ≡ last_output l lines partial
   finished_front =
       let x = last_output l lines partial in
@@ -167,8 +174,10 @@ module _ (l l' : Ledger) (lines partial : ℕ) (past : Bool) (text : List ℕ) (
       ap (end_bytes lines) (sym (length-take-le partial text (less_le _ _ t.room)))
       ∙ ap end_output t.run_is
 
-  pub shown_after : (out : List ℕ) (bytes : ℕ) (out' : List ℕ) → Finished l' lines partial out bytes out' → Shown l bytes out'
-  shown_after out bytes out' f =
+  pub shown_after : (out : List ℕ) (r : Result ℕ StreamFailed) (out' : List ℕ)
+      → IfOk r (λ bytes. Finished l' lines partial out bytes out')
+      → IfOk r (λ bytes. Shown l bytes out')
+  shown_after out (Ok bytes) out' f =
       record {
         input = t.input;
         last =
@@ -177,3 +186,4 @@ module _ (l l' : Ledger) (lines partial : ℕ) (past : Bool) (text : List ℕ) (
             ∙ ap (λ (x : List ℕ). end_output (take_text (run_at l 0 []) t.input) ++ x)
             (ap positions_output book_is ∙ (text_kept l b t.input).listing);
       }
+  shown_after out (Err e) out' f = tt
