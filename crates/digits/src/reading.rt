@@ -17,6 +17,7 @@ fn word(line: &[u8], at: usize) -> u64
 }
 
 // Whether the eight bytes of a word are digits: by the upper halves of the bytes, and of the bytes with 6 added.
+#[tactic(auto, using(crate::proofs::Laws::Words::high_no, crate::proofs::Laws::Words::high_fits, crate::proofs::Laws::Words::high_yes))]
 fn are_digits(w: u64) -> bool
     ensures { result ≡ are_digits (bytes_of 8 w) }
 {
@@ -25,6 +26,7 @@ fn are_digits(w: u64) -> bool
 }
 
 // The number of eight digits: the four pairs at once, and then their sum.
+#[tactic(auto, using(crate::proofs::Laws::Words::value_from, crate::proofs::Laws::Words::value_fits, crate::proofs::Laws::Words::value_pairs))]
 fn value(w: u64) -> u64
     requires { are_digits (bytes_of 8 w) ≡ true }
     ensures { result ≡ digits_from 0 (bytes_of 8 w) }
@@ -81,6 +83,7 @@ fn eight(w: u64) -> Option<u64>
 }
 
 // A column b that others follow, after columns that came to v: 0 for blanks alone.
+#[tactic(auto, using(crate::proofs::Laws::Words::next_read, crate::proofs::Laws::Words::last_digit_lem, crate::proofs::Laws::Words::last_other))]
 fn next(v: u64, b: u8) -> Option<u64>
     requires { v < 10 ^ 11 }
     ensures read { (s : List ℕ) → 0 < length s → onward v (b ∷ s) ≡ onward_of result s }
@@ -107,6 +110,7 @@ fn head(line: &[u8], at: usize, n: usize) -> Option<u64>
 }
 
 // The number of a field that ends in the column b.
+#[tactic(auto, using(crate::proofs::Laws::Words::last_digit_lem, crate::proofs::Laws::Words::last_other))]
 fn last(v: u64, b: u8) -> Option<u64>
     requires { v < 10 ^ 11 }
     ensures is { result ≡ onward v (b ∷ []) }
@@ -120,6 +124,7 @@ fn last(v: u64, b: u8) -> Option<u64>
 }
 
 // The number of a field that ends in the eight columns of a word.
+#[tactic(auto, unfolding(crate::specs::Words::onward), using(crate::proofs::Laws::Words::eight_below, crate::proofs::Laws::Words::tail_digits, crate::proofs::Laws::Words::tail_none))]
 fn tail(v: u64, w: u64) -> Option<u64>
     requires { v < 10 ^ 4 }
     ensures { result ≡ onward v (bytes_of 8 w) }
@@ -151,6 +156,7 @@ fn number(line: &[u8], at: usize, width: usize) -> Option<u64>
 }
 
 // The field of a width at a place of a line: no value where it is too wide or does not lie in the line.
+#[tactic(auto, unfolding(crate::specs::Field::field_at), using(crate::proofs::Laws::Buffer::field_outside))]
 pub fn field(line: &[u8], at: usize, width: usize) -> Option<u64>
     ensures { result ≡ field_at at width line.now }
 {

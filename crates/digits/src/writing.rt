@@ -42,6 +42,7 @@ fn put_field(out: &mut [u8], at: usize, width: usize, sign: u8, v: u64)
 
 // Writes v to the right edge of the field of a width at a place, the sign before its digits, and blanks before that; or writes nothing,
 // where the field has no room.
+#[tactic(auto, using(crate::proofs::Laws::Buffer::put_outside))]
 pub fn put(out: &mut [u8], at: usize, width: usize, sign: u8, v: u64)
     ensures { out.new ≡ put_at at width sign v out.old }
 {

@@ -10,6 +10,7 @@ use lines::line::{COLUMNS, LINE_END};
 const STEP: usize = 16;
 
 // Whether no byte ends a line. The loop has no other way out, so that many bytes can be compared at a time.
+#[tactic(auto, using(crate::proofs::Laws::Cut::none_step, crate::proofs::Laws::Cut::none_end))]
 fn is_endless(text: &[u8]) -> bool
     ensures { result ≡ is_none (end_from text.now 0) }
 {
@@ -36,6 +37,7 @@ fn endless_parts(parts: &[[u8; STEP]]) -> usize
 }
 
 // A place before which no line ends: some bytes are passed over at a time.
+#[tactic(auto, using(crate::proofs::Laws::Cut::parts_past))]
 fn skip(text: &[u8]) -> usize
     ensures inside { result ≤ length text.now }
     ensures rest { end_from text.now result ≡ end_from text.now 0 }
@@ -61,6 +63,7 @@ fn scan(text: &[u8]) -> Option<usize>
 }
 
 // The first end of a line from a place on; first it is looked for where a sound line has it.
+#[tactic(auto, using(crate::proofs::Laws::Cut::end_from_rest, crate::proofs::Laws::Cut::end_from_no, crate::proofs::Laws::Cut::is_at_true))]
 pub fn line_end(text: &[u8], from: usize) -> Option<usize>
     ensures { result ≡ end_from text.now from }
 {

@@ -21,6 +21,7 @@ const LAST_ANSWER: u64 = 999;
 const WIDEST_KIND: u64 = 99;
 
 // Writes the answer line of a line's number to a place that has room for it.
+#[tactic(auto, using(crate::proofs::Laws::Layout::answer_line_written))]
 fn put_answer(out: &mut [u8], at: usize, number: u64, answer: u64)
     requires { at + answer_length ≤ length out.old }
     ensures { out.new ≡ pasted at (answer_line number answer) out.old }
@@ -31,6 +32,7 @@ fn put_answer(out: &mut [u8], at: usize, number: u64, answer: u64)
 }
 
 // Writes the position line of a party to a place that has room for it.
+#[tactic(auto, using(crate::proofs::Laws::Layout::position_line_written))]
 fn put_position(out: &mut [u8], at: usize, kind: u64, number: u64, cents: i64)
     requires { at + position_length ≤ length out.old }
     ensures { out.new ≡ pasted at (position_line kind number cents) out.old }

@@ -22,12 +22,6 @@ use Rattle.digits.proofs.Laws.Field.{signed_padded_none, signed_padded_more, len
 -- ---- a field at a place
 
 module _ (at w : ℕ) (l : List ℕ) where
-  pub field_facts : ltb 0 w && leb w 12 && has_room at w (length l) ≡ true → (at + w ≤ length l) × (1 ≤ w) × (w ≤ 12)
-  field_facts e =
-      let p = and_halves (ltb 0 w && leb w 12) e in
-      let q = and_halves (ltb 0 w) p.0 in
-      (leb-true (at + w) (length l) p.1, ltb-true 0 w q.0, leb-true w 12 q.1)
-
   pub field_inside : w ≤ 12 → at + w ≤ length l → field_at at w l ≡ read_field (take w (drop at l))
   unfolding field_at
   field_inside n h = rw (le-leb w 12 n, le-leb (at + w) (length l) h)

@@ -314,6 +314,9 @@ value_fits =
     by_bytes (λ (w : ℕ) (bs : List ℕ). are_digits bs ≡ true → ValueFits w)
     (λ a b c d e f g h t. tower_fits a b c d e f g h (eight_digits a b c d e f g h t))
 
+pub value_from : (w : ℕ) → w < 2 ^ 64 → are_digits (bytes_of 8 w) ≡ true → 3472328296227680304 ≤ w
+value_from w h t = (value_fits w h t).from
+
 abbrev pub pairs_of : ℕ → ℕ
 pairs_of p = p % 256 * 1000000 + p / 65536 % 256 * 10000 + p / 4294967296 % 256 * 100 + p / 281474976710656 % 256
 
