@@ -26,6 +26,7 @@ fn is_line(line: &[u8]) -> bool
 
 // The event whose fields stand in a line, or refusal 1. Each field's answer is taken apart by let .. else, as document 01 asks, and is a
 // call of its own: in a loop over their widths, which the compiler then does not know, a line takes 1.9 times as long to read.
+#[tactic(auto, using(crate::proofs::Laws::Line::fields_are))]
 fn fields(line: &[u8]) -> Result<Event, Refusal>
     requires { length line.now ≡ line_length }
     ensures { result ≡ event_read (read_fields widths 0 line.now) }
