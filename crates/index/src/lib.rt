@@ -51,18 +51,17 @@ impl Index {
         ensures { result ≡ index_of cells.now used }
     {
         let n = covered_of(cells, used);
-        let mut first = [0; SLOTS];
-        let mut next = [0; ROWS];
+        let mut made = Index {
+            first: [0; SLOTS],
+            next: [0; ROWS],
+            covered: n as u16,
+        };
         for i in (0..n).rev() {
             let slot = slot_of(cells[i * STRIDE]);
-            next[i] = first[slot];
-            first[slot] = (i + 1) as u16;
+            made.next[i] = made.first[slot];
+            made.first[slot] = (i + 1) as u16;
         }
-        Index {
-            first,
-            next,
-            covered: n as u16,
-        }
+        made
     }
 
     // The next row of a row's slot.
