@@ -13,9 +13,9 @@ loop-i-preserved c =
     let n = c.covered_of-n.result in
     let e : l.i ≡ l.i - 1 + 1 = omega arith in (
       rw c.slot_of-slot.ensures.is
-      (linked_row cells n (omega (arith, c.covered_of-n.ensures)) (l.i - 1) l.made.first l.made.next
-      (subst (λ (i : ℕ). Linked cells n i l.made.first l.made.next) e l.invariant.0)
-      (omega arith)),
+          (linked_row cells n (omega (arith, c.covered_of-n.ensures)) (l.i - 1) l.made.first l.made.next
+          (subst (λ (i : ℕ). Linked cells n i l.made.first l.made.next) e l.invariant.0)
+          (omega arith)),
       l.invariant.1,
     )
 
