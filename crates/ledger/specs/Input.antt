@@ -54,3 +54,10 @@ pub record InputTaken (start : Run) (l : Ledger) (lines partial : ℕ) (past : B
   -- there is room to read on
   pub room : partial < length text
   pub past_is : past ≡ passes 0 input (take_text start input)
+
+-- whatever stream failed, some bytes made the ledger; with some of them at the front of the text, where lines and bytes are not handed on
+pub record InputMade (start : Run) (l : Ledger) (text : List ℕ) : Type 0 where
+  pub lines : ℕ
+  pub partial : ℕ
+  pub past : Bool
+  pub taken : InputTaken start l lines partial past text

@@ -4,11 +4,12 @@
 #![tactic(auto)]
 
 ghost use Rattle.std.specs.Prelude.{◌≡◌, [], ◌+◌, ◌*◌, ◌≤◌, ◌<◌, length, IfOk};
+ghost use Rattle.digits.specs.Field.{pasted};
 ghost use Rattle.tables.specs.Ledger.{ledger_of, ledger_in, SameLoans};
 ghost use Rattle.report.specs.Layout.{answer_length};
 ghost use Rattle.run.specs.Run.{run_at, clipped_length};
-ghost use Rattle.ledger.specs.Input.{filled_after, Behind, Given, Turned, InputTaken};
-ghost use Rattle.ledger.specs.Program.{Begins, LastRoom, Finished, Shown};
+ghost use Rattle.ledger.specs.Input.{filled_after, Behind, Given, Turned, InputTaken, InputMade};
+ghost use Rattle.ledger.specs.Program.{Begins, LastRoom, last_output, Finished, Shown};
 
 use listing::ending::end_text;
 use listing::listing::list_positions;
@@ -85,6 +86,7 @@ fn take_input(
 ) -> Result<Stage, StreamFailed>
     requires { (clipped_length < length text.old) × (answer_length * length text.old ≤ length out.old) }
     ensures loans { SameLoans book.old book.new }
+    ensures made { InputMade (run_at (ledger_in book.old) 0 []) (ledger_in book.new) text.new }
     ensures taken { IfOk result (λ p. InputTaken (run_at (ledger_in book.old) 0 []) (ledger_in book.new) p.lines p.partial p.beyond text.new) }
 {
     let mut p = Stage {
@@ -125,7 +127,8 @@ fn put_last(p: Stage, book: &BookRef, out: &mut [u8]) -> usize
 // Writes what there is to be written where the input ends, and gives its bytes; says it if there was more input.
 fn finish(rt: HostRuntime, p: Stage, book: &BookRef, out: &mut [u8]) -> Result<usize, StreamFailed>
     requires { LastRoom (ledger_of book.now) out.old }
-    ensures { IfOk result (λ bytes. Finished (ledger_of book.now) p.lines p.partial out.old bytes out.new) }
+    ensures made { out.new ≡ pasted 0 (last_output (ledger_of book.now) p.lines p.partial) out.old }
+    ensures bytes { IfOk result (λ bytes. bytes ≡ length (last_output (ledger_of book.now) p.lines p.partial)) }
 {
     let bytes = put_last(p, book, out);
     write_whole(rt, &out[..bytes])?;
@@ -143,7 +146,8 @@ fn run_by(
     out: &mut [u8; OUT],
 ) -> Result<usize, StreamFailed>
     requires { Begins (ledger_in book.old) }
-    ensures { IfOk result (λ bytes. Shown (ledger_in book.old) bytes out.new) }
+    ensures made { InputMade (run_at (ledger_in book.old) 0 []) (ledger_in book.new) text.new }
+    ensures shown { IfOk result (λ bytes. Shown (ledger_in book.old) bytes out.new) }
 {
     let p = take_input(rt, book, text, out)?;
     finish(rt, p, &book.view(), out)

@@ -175,15 +175,16 @@ module _ (l l' : Ledger) (lines partial : ℕ) (past : Bool) (text : List ℕ) (
       ∙ ap end_output t.run_is
 
   pub shown_after : (out : List ℕ) (r : Result ℕ StreamFailed) (out' : List ℕ)
-      → IfOk r (λ bytes. Finished l' lines partial out bytes out')
+      → out' ≡ pasted 0 (last_output l' lines partial) out
+      → IfOk r (λ bytes. bytes ≡ length (last_output l' lines partial))
       → IfOk r (λ bytes. Shown l bytes out')
-  shown_after out (Ok bytes) out' f =
+  shown_after out (Ok bytes) out' w n =
       record {
         input = t.input;
         last =
-            finished_front l' lines partial out bytes out' f
+            finished_front l' lines partial out bytes out' (record { bytes_are = n; out_is = w })
             ∙ ap (λ (x : List ℕ). x ++ positions_output l') last_is
             ∙ ap (λ (x : List ℕ). end_output (take_text (run_at l 0 []) t.input) ++ x)
             (ap positions_output book_is ∙ (text_kept l b t.input).listing);
       }
-  shown_after out (Err e) out' f = tt
+  shown_after out (Err e) out' w n = tt
