@@ -1,7 +1,6 @@
 -- A text of events: the call for a piece of the program's input, against the run of crates/run/specs/Run.
 -- Assumes nothing.
 use Rattle.std.specs.Prelude.{◌≡◌, Bool, cond, ◌&&◌, List, [], ℕ, ◌+◌, ◌*◌, ◌/◌, ◌≤◌, leb, length, take, drop, Option, Some, None, Result, Ok, Err}
-use denote.Ref.{Bor}
 use Rattle.refusals.specs.declared.Refusal.{Refusal}
 use Rattle.refusals.specs.declared.Refusal.TheVariants.{UnfitMemory}
 use Rattle.events.specs.declared.Event.{Event}
@@ -24,16 +23,16 @@ use Rattle.text.specs.declared.text.Piece.{Piece}
 -- what was tested and made once: the memory is safe, and each table has its index
 pub record Prepared (made : Indexes) (l : Ledger) : Type 0 where
   pub safe : Safe l
-  pub mandates : Indexed made.mandates l.mandates l.mandates_used
-  pub collections : Indexed made.collections l.collections l.collections_used
+  pub mandates : Indexed made.mandates.now l.mandates l.mandates_used
+  pub collections : Indexed made.collections.now l.collections l.collections_used
 
 -- nothing is known of memory that was not found safe
-abbrev pub WhenKnown : Option (Bor Indexes) → Ledger → Type 0
+abbrev pub WhenKnown : Option Indexes → Ledger → Type 0
 WhenKnown None l = Unit
-WhenKnown (Some made) l = Prepared made.now l
+WhenKnown (Some made) l = Prepared made l
 
 -- an event that was read, given to the ledger l
-pub record Sound (known : Option (Bor Indexes)) (l : Ledger) (e : Event) : Type 0 where
+pub record Sound (known : Option Indexes) (l : Ledger) (e : Event) : Type 0 where
   pub tested : WhenKnown known l
   pub is_within : checked e ≡ (Ok tt)
 
@@ -43,7 +42,7 @@ pub record LineTaken (l : Ledger) (line : List ℕ) (r : Result Unit Refusal) (l
   pub after_is : l' ≡ after_line l (read_line line)
 
 -- the memory was tested, and the buffer has room for an answer
-pub record AnswerRoom (known : Option (Bor Indexes)) (l : Ledger) (written : ℕ) (out : List ℕ) : Type 0 where
+pub record AnswerRoom (known : Option Indexes) (l : Ledger) (written : ℕ) (out : List ℕ) : Type 0 where
   pub tested : WhenKnown known l
   pub room : written + answer_length ≤ length out
 
@@ -55,7 +54,7 @@ pub record LineAnswered (l : Ledger) (p : Progress) (line out : List ℕ) (r : P
 
 -- ---- the lines of a text
 
-pub record TextRoom (known : Option (Bor Indexes)) (l : Ledger) (text out : List ℕ) : Type 0 where
+pub record TextRoom (known : Option Indexes) (l : Ledger) (text out : List ℕ) : Type 0 where
   pub tested : WhenKnown known l
   pub room : answer_length * length text ≤ length out
 

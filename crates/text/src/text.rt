@@ -3,7 +3,6 @@ ghost use Rattle.std.specs.Prelude.{◌≡◌, [], ◌&&◌, ◌/◌, ◌≤◌,
 ghost use Rattle.digits.specs.Field.{pasted};
 ghost use Rattle.tables.specs.Ledger.{ledger_in, SameLoans};
 ghost use Rattle.tables.specs.Lookup.{MayStart};
-ghost use Rattle.index.specs.Index.{index_of};
 ghost use Rattle.fitness.specs.Fitness.{fit};
 ghost use Rattle.report.specs.Layout.{answer_length};
 ghost use Rattle.run.specs.Run.{run_at, clipped_length, clipped};
@@ -26,9 +25,9 @@ const CLIPPED: usize = COLUMNS + 2;
 
 // The index of each table, made once for a piece on memory that is safe.
 #[derive(Clone, Copy)]
-struct Indexes {
-    mandates: Index,
-    collections: Index,
+struct Indexes<'a> {
+    mandates: &'a Index,
+    collections: &'a Index,
 }
 
 // The lines answered and the bytes written so far.
@@ -54,19 +53,8 @@ pub struct Piece {
     pub written: usize,
 }
 
-// The indexes of a book.
-fn index_tables(book: &BookMut) -> Indexes
-    ensures mandates { result.mandates ≡ index_of book.now.mandates.now book.now.header.mandates }
-    ensures collections { result.collections ≡ index_of book.now.collections.now book.now.header.collections }
-{
-    Indexes {
-        mandates: Index::of(book.mandates, book.header.mandates),
-        collections: Index::of(book.collections, book.header.collections),
-    }
-}
-
 // A row from which the mandate that an event names may be looked for: by the index where there is one, else the first row.
-fn mandate_since(known: Option<&Indexes>, book: &BookMut, e: Event) -> usize
+fn mandate_since(known: Option<Indexes>, book: &BookMut, e: Event) -> usize
     requires { WhenKnown known (ledger_in book.now) }
     ensures { MayStart book.now.mandates.now book.now.header.mandates e.mandate result }
 {
@@ -77,7 +65,7 @@ fn mandate_since(known: Option<&Indexes>, book: &BookMut, e: Event) -> usize
 }
 
 // The same for the collection that it names.
-fn collection_since(known: Option<&Indexes>, book: &BookMut, e: Event) -> usize
+fn collection_since(known: Option<Indexes>, book: &BookMut, e: Event) -> usize
     requires { WhenKnown known (ledger_in book.now) }
     ensures { MayStart book.now.collections.now book.now.header.collections e.a result }
 {
@@ -88,7 +76,7 @@ fn collection_since(known: Option<&Indexes>, book: &BookMut, e: Event) -> usize
 }
 
 // Whether the memory is fit; memory that is known to be safe is not tested again.
-fn may_act(known: Option<&Indexes>, book: &BookMut) -> bool
+fn may_act(known: Option<Indexes>, book: &BookMut) -> bool
     requires { WhenKnown known (ledger_in book.now) }
     ensures { result ≡ fit (ledger_in book.now) }
 {
@@ -99,7 +87,7 @@ fn may_act(known: Option<&Indexes>, book: &BookMut) -> bool
 }
 
 // An event within its limits. What it names is looked for from where the indexes say.
-fn take_sound(known: Option<&Indexes>, book: &mut BookMut, e: Event) -> Result<(), Refusal>
+fn take_sound(known: Option<Indexes>, book: &mut BookMut, e: Event) -> Result<(), Refusal>
     requires { Sound known (ledger_in book.old) e }
     ensures loans { SameLoans book.old book.new }
     ensures taken { Taken (ledger_in book.old) e result (ledger_in book.new) }
@@ -115,7 +103,7 @@ fn take_sound(known: Option<&Indexes>, book: &mut BookMut, e: Event) -> Result<(
 }
 
 // A line: what the reader refuses, or what the ledger answers.
-fn take_line(known: Option<&Indexes>, book: &mut BookMut, line: &[u8]) -> Result<(), Refusal>
+fn take_line(known: Option<Indexes>, book: &mut BookMut, line: &[u8]) -> Result<(), Refusal>
     requires { WhenKnown known (ledger_in book.old) }
     ensures loans { SameLoans book.old book.new }
     ensures taken { LineTaken (ledger_in book.old) line.now result (ledger_in book.new) }
@@ -126,7 +114,7 @@ fn take_line(known: Option<&Indexes>, book: &mut BookMut, line: &[u8]) -> Result
 
 // Answers a line that has ended, unless 999,999 were answered before.
 fn end_line(
-    known: Option<&Indexes>,
+    known: Option<Indexes>,
     book: &mut BookMut,
     p: Progress,
     line: &[u8],
@@ -150,7 +138,7 @@ fn end_line(
 
 // Answers the lines of a text that have ended.
 fn take_lines(
-    known: Option<&Indexes>,
+    known: Option<Indexes>,
     book: &mut BookMut,
     lines: u64,
     text: &[u8],
@@ -215,9 +203,15 @@ pub fn take_text(
     if !piece_fits(filled, text.len(), out.len()) {
         return Err(Refusal::UnfitMemory);
     }
-    let safe = is_safe(&book.view());
-    let indexes = index_tables(book);
-    let known = if safe { Some(&indexes) } else { None };
+    let view = book.view();
+    let safe = is_safe(&view);
+    let mandates = Index::of(view.mandates, view.header.mandates);
+    let collections = Index::of(view.collections, view.header.collections);
+    let indexes = Indexes {
+        mandates: &mandates,
+        collections: &collections,
+    };
+    let known = if safe { Some(indexes) } else { None };
     let done = take_lines(known, book, lines, &text[..filled], out);
     let partial = keep_partial(text, done.at, filled);
     Ok(Piece {

@@ -1,7 +1,7 @@
 -- Laws of specs/Text, for the functions of src/text.rt in their order. To cite: `output_line`;
 -- `AnsweredTo` with `answered_start`, `answered_line`, `answered_end`. Assumes nothing.
 use Rattle.std.specs.List.{copy_within}
-use Rattle.std.proofs.Common.{Option, Some, None, Err, Ok, Result, Bor}
+use Rattle.std.proofs.Common.{Option, Some, None, Err, Ok, Result}
 use mathlib.Core.Path.{◌≡◌, refl, sym, ap, ◌∙◌}
 use mathlib.Core.Bool.{Bool, true, false, cond}
 use mathlib.Core.Logic.{◌≢◌}
@@ -70,8 +70,8 @@ module _ (made : Indexes) where
   line_prepared l (Ok e) p =
       record {
         safe = after_safe l e p.safe;
-        mandates = indexed_kept made.mandates l.mandates _ l.mandates_used _ p.mandates (mandates_grown l e);
-        collections = indexed_kept made.collections l.collections _ l.collections_used _ p.collections (collections_grown l e);
+        mandates = indexed_kept made.mandates.now l.mandates _ l.mandates_used _ p.mandates (mandates_grown l e);
+        collections = indexed_kept made.collections.now l.collections _ l.collections_used _ p.collections (collections_grown l e);
       }
   line_prepared l (Err r) p = p
 
@@ -82,9 +82,9 @@ module _ (made : Indexes) where
       by_more true = line_prepared l (read_line line) p
       by_more false = p
 
-known_kept : (known : Option (Bor Indexes)) (l : Ledger) (n : ℕ) (line : List ℕ) → WhenKnown known l → WhenKnown known (ended (run_at l n []) line).book
+known_kept : (known : Option Indexes) (l : Ledger) (n : ℕ) (line : List ℕ) → WhenKnown known l → WhenKnown known (ended (run_at l n []) line).book
 known_kept None l n line k = tt
-known_kept (Some made) l n line k = ended_prepared made.now l n line k
+known_kept (Some made) l n line k = ended_prepared made l n line k
 
 -- a line writes one answer at most
 ended_short : (r : Run) (line : List ℕ) → length (line_output r line) ≤ answer_length
@@ -96,7 +96,7 @@ ended_short r line = by_more (ltb r.lines last_number)
 
 -- the lines before a place have been answered
 pub record AnsweredTo
-    (known : Option (Bor Indexes)) (s : Run) (text out : List ℕ) (at : ℕ) (l : Ledger) (p : Progress) (out' : List ℕ) : Type 0 where
+    (known : Option Indexes) (s : Run) (text out : List ℕ) (at : ℕ) (l : Ledger) (p : Progress) (out' : List ℕ) : Type 0 where
   pub tested : WhenKnown known l
   pub answered : Answering s text at l p.lines (text_output s (take at text))
   pub bytes : out' ≡ pasted 0 (text_output s (take at text)) out
@@ -104,7 +104,7 @@ pub record AnsweredTo
   pub few : p.written ≤ answer_length * at
   pub inside : at ≤ length text
 
-module _ (known : Option (Bor Indexes)) (text out : List ℕ) where
+module _ (known : Option Indexes) (text out : List ℕ) where
   pub answered_start : (l : Ledger) (p : Progress)
       → WhenKnown known l
       → p.written ≡ 0

@@ -6,7 +6,7 @@ use Rattle.text.proofs.text.collection_since.Goals as goal
 
 pub returns-in-Some : goal.returns-in-Some
 returns-in-Some c =
-    let prepared : Prepared c.in-Some.made.now (ledger_in c.args.book.now) = rw c.in-Some.is at c.requires in
+    let prepared : Prepared c.in-Some.made (ledger_in c.args.book.now) = rw c.in-Some.is at c.requires in
     rw c.first_row.ensures (index_holds _ _ c.args.book.now.header.collections _ prepared.collections)
 
 pub returns-in_default : goal.returns-in_default
