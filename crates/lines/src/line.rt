@@ -1,5 +1,6 @@
 // The text line of an event: specs/Line.
-ghost use Rattle.std.specs.Prelude.{◌≡◌, ◌++◌, ◌≤◌, length, drop};
+ghost use Rattle.std.specs.Prelude.{◌≡◌, ◌*◌, ◌++◌, ◌≤◌, length, drop, Some};
+ghost use Rattle.digits.specs.Field.{field_at};
 ghost use Rattle.lines.specs.Line.{line_length, is_line, widths, read_fields, event_read, read_line, line_of, write_answer, bytes_after, line_number, write_number, reader_number, writer_number};
 
 use digits::BLANK;
@@ -24,25 +25,14 @@ fn is_line(line: &[u8]) -> bool
     line.len() == LINE && line[COLUMNS] == LINE_END
 }
 
-// The event whose fields stand in a line, or refusal 1. Each field's answer is taken apart by let .. else, as document 01 asks, and is a
-// call of its own: in a loop over their widths, which the compiler then does not know, a line takes 1.9 times as long to read.
+// The last five fields of a line, behind the first four. They have a function of their own because the compiler takes what comes after
+// many tests for rare, and does not inline it.
 #[tactic(auto, using(crate::proofs::Laws::Line::fields_are))]
-fn fields(line: &[u8]) -> Result<Event, Refusal>
-    requires { length line.now ≡ line_length }
+fn later_fields(line: &[u8], kind: u64, date: u64, mandate: u64, a: u64) -> Result<Event, Refusal>
+    requires long { length line.now ≡ line_length }
+    requires read { (field_at 0 2 line.now ≡ Some kind) × (field_at 2 9 line.now ≡ Some date) × (field_at 11 10 line.now ≡ Some mandate) × (field_at 21 10 line.now ≡ Some a) }
     ensures { result ≡ event_read (read_fields widths 0 line.now) }
 {
-    let Some(kind) = field(line, 0, 2) else {
-        return Err(Refusal::BadLine);
-    };
-    let Some(date) = field(line, 2, 9) else {
-        return Err(Refusal::BadLine);
-    };
-    let Some(mandate) = field(line, 11, 10) else {
-        return Err(Refusal::BadLine);
-    };
-    let Some(a) = field(line, 21, 10) else {
-        return Err(Refusal::BadLine);
-    };
     let Some(b) = field(line, 31, 10) else {
         return Err(Refusal::BadLine);
     };
@@ -69,6 +59,28 @@ fn fields(line: &[u8]) -> Result<Event, Refusal>
         second,
         code,
     })
+}
+
+// The event whose fields stand in a line, or refusal 1. Each field's answer is taken apart by let .. else, as document 01 asks, and is a
+// call of its own: in a loop over their widths, which the compiler then does not know, a line takes 1.9 times as long to read.
+#[tactic(auto, using(crate::proofs::Laws::Line::fields_are))]
+fn fields(line: &[u8]) -> Result<Event, Refusal>
+    requires { length line.now ≡ line_length }
+    ensures { result ≡ event_read (read_fields widths 0 line.now) }
+{
+    let Some(kind) = field(line, 0, 2) else {
+        return Err(Refusal::BadLine);
+    };
+    let Some(date) = field(line, 2, 9) else {
+        return Err(Refusal::BadLine);
+    };
+    let Some(mandate) = field(line, 11, 10) else {
+        return Err(Refusal::BadLine);
+    };
+    let Some(a) = field(line, 21, 10) else {
+        return Err(Refusal::BadLine);
+    };
+    later_fields(line, kind, date, mandate, a)
 }
 
 // The event of a line, or refusal 1, 3, 4 or 5.
