@@ -1,10 +1,11 @@
 // The table of Easter Sundays: specs/Easter.
-ghost use Rattle.std.specs.Prelude.{◌≡◌, ◌+◌, ◌<◌};
-ghost use Rattle.calendar.specs.Gregorian.{month_day, leap_day, first_year};
+ghost use Rattle.std.specs.Prelude.{◌≡◌, ◌+◌, ◌-◌};
+ghost use Rattle.calendar.specs.Gregorian.{month_day, first_year};
 ghost use Rattle.calendar.specs.DayNumber.{year_start, day_number};
 ghost use Rattle.calendar.specs.Easter.{easter_sunday, easter_of, easter_day_of};
 
 use crate::gregorian;
+use crate::gregorian::Year;
 
 // Easter Sunday of each year from 2000 to 2199, as MMDD.
 const EASTER: [u16; 200] = [
@@ -31,22 +32,23 @@ const EASTER: [u16; 200] = [
     410, 401, 421, 406, 329, 417, 409, 325, 414,
 ];
 
-// Easter Sunday of the year 2000 + k, as MMDD. Only this function reads the table.
-#[tactic(auto, using(crate::proofs::Laws::Easter::table_easter))]
-fn easter_in(k: u64) -> u64
-    requires { k < 200 }
-    ensures { result ≡ month_day (easter_sunday (first_year + k)) }
+// Easter Sunday of a year, as MMDD. Only this function reads the table.
+#[tactic(auto, using(crate::proofs::Laws::Easter::table_of_year))]
+fn easter_in(year: Year) -> u64
+    ensures { result ≡ month_day (easter_sunday year) }
 {
-    u64::from(EASTER[k as usize])
+    u64::from(EASTER[(year.0 - 2000) as usize])
 }
 
-// The day, from 0, of the year 2000 + k, with l leap days, that is Easter Sunday.
+// The day, from 0, of a year that is its Easter Sunday.
 #[tactic(auto, using(crate::proofs::Laws::Gregorian::leap_day_le))]
-pub(crate) fn easter_place(k: u64, l: u64) -> u64
-    requires { (k < 200) × (l ≡ leap_day (first_year + k)) }
-    ensures { year_start k + result ≡ day_number (easter_sunday (first_year + k)) }
+pub(crate) fn easter_place(year: Year) -> u64
+    ensures { year_start (year - first_year) + result ≡ day_number (easter_sunday year) }
 {
-    let md = easter_in(k);
+    // that the year is one of the table's
+    let _ = &year.0;
+    let md = easter_in(year);
+    let l = year.leap_day();
     if md < 400 {
         59 + l + md - 301
     } else {
@@ -58,10 +60,8 @@ pub(crate) fn easter_place(k: u64, l: u64) -> u64
 pub fn easter_sunday(y: u64) -> Option<u64>
     ensures { result ≡ easter_of y }
 {
-    if (2000 <= y) & (y <= 2199) {
-        return Some(y * 10000 + easter_in(y - 2000));
-    }
-    None
+    let year = Year::of(y)?;
+    Some(y * 10000 + easter_in(year))
 }
 
 // The day number of Easter Sunday.

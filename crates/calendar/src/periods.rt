@@ -1,11 +1,12 @@
 // Periods: specs/Periods.
-ghost use Rattle.std.specs.Prelude.{◌≡◌, ◌+◌, ◌≤◌, ◌<◌};
-ghost use Rattle.calendar.specs.DayNumber.{calendar_days, date_of};
+ghost use Rattle.std.specs.Prelude.{◌≡◌, ◌≤◌, ◌<◌};
+ghost use Rattle.calendar.specs.DayNumber.{date_of};
 ghost use Rattle.calendar.specs.Target.{open_after};
 ghost use Rattle.calendar.specs.Periods.{days_after, days_between, business_days_after, day_of_month_count, months_after, period_end, is_after};
 
-use crate::gregorian::CALENDAR_DAYS;
-use crate::{BusinessDays, CalendarDays, Months, Period, gregorian, target};
+use crate::gregorian::{Day, Year};
+use crate::target::first_open_day;
+use crate::{BusinessDays, CalendarDays, Months, Period, gregorian};
 
 // The months of the years 0 to 2199.
 const MONTHS: u64 = 26400;
@@ -29,17 +30,16 @@ pub fn days_between(x: u64, y: u64) -> Option<CalendarDays>
     to.checked_sub(from).map(CalendarDays)
 }
 
-// The n-th business day after the day d.
+// The date of the n-th business day after a day.
 #[tactic(auto, using(crate::proofs::Laws::Rules::of_open_after))]
-fn open_after(d: u64, n: u64) -> Option<u64>
-    requires { d < calendar_days }
-    ensures { result ≡ date_of (open_after n d) }
+fn open_after(day: Day, n: u64) -> Option<u64>
+    ensures { result ≡ date_of (open_after n day) }
 {
-    let mut at = d;
+    let mut at = day;
     for _ in 0..n {
-        at = target::first_open(at + 1)?;
+        at = first_open_day(Day::at(at.number() + 1)?);
     }
-    gregorian::date_of(at)
+    Some(at.date())
 }
 
 // The date of the n-th business day after a date.
@@ -47,7 +47,7 @@ fn open_after(d: u64, n: u64) -> Option<u64>
 pub fn business_days_after(x: u64, n: BusinessDays) -> Option<u64>
     ensures { result ≡ business_days_after n x }
 {
-    open_after(gregorian::day_number(x)?, n.0)
+    open_after(Day::of(x)?, n.0)
 }
 
 // The day d of the month that a count t of months leads to, or that month's last day.
@@ -58,7 +58,7 @@ fn day_of_month(t: u64, d: u64) -> u64
 {
     let y = t / 12;
     let m = t % 12 + 1;
-    let last = gregorian::last_in(y, m);
+    let last = Year(y).last_of(m);
     let first = y * 10000 + m * 100;
     if d <= last { first + d } else { first + last }
 }
@@ -84,12 +84,8 @@ pub fn period_end(x: u64, p: Period) -> Option<u64>
     ensures { result ≡ period_end p x }
 {
     let month = months_after(x, p.months)?;
-    let day = gregorian::number(month);
-    let days = p.days.0;
-    if days < CALENDAR_DAYS - day {
-        return open_after(day + days, p.business.0);
-    }
-    None
+    let day = Day::of_date(month).number().checked_add(p.days.0)?;
+    open_after(Day::at(day)?, p.business.0)
 }
 
 // Whether the date x comes after one that was worked out.

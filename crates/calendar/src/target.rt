@@ -1,26 +1,31 @@
 // Business days: specs/Target.
-ghost use Rattle.std.specs.Prelude.{◌≡◌, ◌-◌, ◌<◌};
-ghost use Rattle.calendar.specs.DayNumber.{year_start, calendar_days, year_at, in_calendar};
-ghost use Rattle.calendar.specs.Target.{weekday, business_day, is_open, first_open, last_open_before, answer_date, first_business_day, last_business_day_before};
+ghost use Rattle.std.specs.Prelude.{◌≡◌};
+ghost use Rattle.calendar.specs.DayNumber.{in_calendar};
+ghost use Rattle.calendar.specs.Target.{business_day, is_open, first_open, last_open_before, answer_date, first_business_day, last_business_day_before};
 
-use crate::gregorian::CALENDAR_DAYS;
-use crate::{easter, gregorian};
+use crate::easter::easter_place;
+use crate::gregorian;
+use crate::gregorian::Day;
 
-// Whether a day n from Monday to Friday, the day r from 0 of the year 2000 + k, is a business day. The table of
-// Easter is read only for a day from two before 22 March to the one after 25 April.
-#[tactic(auto, using(crate::proofs::Laws::Rules::of_open_in))]
-fn open_in(k: u64, r: u64, n: u64) -> bool
-    requires { (n < calendar_days) × (weekday n < 5) × (k ≡ year_at n) × (r ≡ n - year_start (year_at n)) }
-    ensures { result ≡ is_open n }
+// Whether a day is a business day. The table of Easter is read only for a day from two before 22 March to the one after 25 April.
+#[tactic(auto, using(crate::proofs::Laws::Rules::of_is_open_day))]
+fn is_open_day(day: Day) -> bool
+    ensures { result ≡ is_open day }
 {
-    let l = gregorian::leap_day_in(2000 + k);
+    let n = day.number();
+    if 5 <= (n + 5) % 7 {
+        return false;
+    }
+    let place = day.place();
+    let r = place.day;
+    let l = place.year.leap_day();
     if (r == 0) | (r == 120 + l) | (r == 358 + l) | (r == 359 + l) {
         return false;
     }
     if (r < 78) | (116 < r) {
         return true;
     }
-    let sunday = easter::easter_place(k, l);
+    let sunday = easter_place(place.year);
     (r + 2 != sunday) & (r != sunday + 1)
 }
 
@@ -28,39 +33,35 @@ fn open_in(k: u64, r: u64, n: u64) -> bool
 pub fn is_business_day(x: u64) -> bool
     ensures { result ≡ business_day x }
 {
-    gregorian::day_number(x).is_some_and(is_open)
+    Day::of(x).is_some_and(is_open_day)
 }
 
 // Whether n is the number of a business day.
-#[tactic(auto, using(crate::proofs::Laws::Rules::of_is_open))]
 pub fn is_open(n: u64) -> bool
     ensures { result ≡ is_open n }
 {
-    if CALENDAR_DAYS <= n {
-        return false;
-    }
-    if 5 <= (n + 5) % 7 {
-        return false;
-    }
-    let p = gregorian::place_of(n);
-    open_in(p.year, p.day, n)
+    Day::at(n).is_some_and(is_open_day)
 }
 
-// The first business day on or after the day n: a loop left by break with it, the form that document 01 names for it.
+// The first business day on or after a day: a loop left by break with it, the form that document 01 names for it.
+pub fn first_open_day(day: Day) -> Day
+    ensures { result ≡ first_open day }
+{
+    let mut d = day.number();
+    loop {
+        if is_open_day(Day(d)) {
+            break Day(d);
+        }
+        d += 1;
+    }
+}
+
+// The first business day on or after the day n.
+#[tactic(auto, using(crate::proofs::Laws::Rules::of_first_open))]
 pub fn first_open(n: u64) -> Option<u64>
     ensures { result ≡ in_calendar (first_open n) }
 {
-    if CALENDAR_DAYS <= n {
-        return None;
-    }
-    let mut d = n;
-    let first = loop {
-        if is_open(d) {
-            break d;
-        }
-        d += 1;
-    };
-    Some(first)
+    Some(first_open_day(Day::at(n)?).number())
 }
 
 // The last business day before the day n.
@@ -82,7 +83,7 @@ pub fn date_of_day(d: Option<u64>) -> Option<u64>
 pub fn first_business_day(x: u64) -> Option<u64>
     ensures { result ≡ first_business_day x }
 {
-    date_of_day(first_open(gregorian::day_number(x)?))
+    Some(first_open_day(Day::of(x)?).date())
 }
 
 // The last business day before a date.

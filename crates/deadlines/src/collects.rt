@@ -1,12 +1,11 @@
 // The kept due, when a collect comes in time, and when its mandate is lapsed.
-ghost use Rattle.std.specs.Prelude.{◌≡◌, not, ◌&&◌, ◌+◌, ◌<◌, ltb};
-ghost use Rattle.calendar.specs.DayNumber.{calendar_days};
+ghost use Rattle.std.specs.Prelude.{◌≡◌, not, ◌&&◌, ◌+◌, ltb};
 ghost use Rattle.calendar.specs.Target.{first_open};
 ghost use Rattle.model.specs.Deadlines.{kept_due, timely, lapsed_for};
 
-use calendar::gregorian::day_number;
+use calendar::gregorian::Day;
 use calendar::periods::{days_after, is_after, months_after};
-use calendar::target::{first_business_day, first_open, last_business_day_before};
+use calendar::target::{first_business_day, first_open_day, last_business_day_before};
 use calendar::{CalendarDays, Months};
 
 // The most calendar days from the event date to the requested date.
@@ -26,29 +25,19 @@ pub fn kept_due(requested: u64) -> u64
     first_business_day(requested).unwrap_or(0)
 }
 
-// The first business day on or after a day.
-#[tactic(auto, using(calendar::proofs::Laws::Answers::in_calendar_is, calendar::proofs::Laws::BusinessDays::first_open_lt))]
-fn open_from(day: u64) -> u64
-    requires { day < calendar_days }
-    ensures { result ≡ first_open day }
-{
-    first_open(day).unwrap_or(0)
-}
-
 // Whether a business day on or after the day lies before the due day. Then the day is not after the last business day
 // before the due day.
 #[tactic(auto, using(calendar::proofs::Laws::BusinessDays::first_open_from, calendar::proofs::Laws::BusinessDays::first_open_near))]
-fn is_early(day: u64, due: u64) -> bool
-    requires { day < calendar_days }
+fn is_early(day: Day, due: Day) -> bool
     ensures { result ≡ ltb (first_open day) due }
 {
     if due <= day {
         return false;
     }
-    if day + OPEN_WITHIN <= due {
+    if day.number() + OPEN_WITHIN <= due.number() {
         return true;
     }
-    open_from(day) < due
+    first_open_day(day) < due
 }
 
 // Refusal 13, by the dates.
@@ -61,24 +50,23 @@ fn is_timely_by_dates(date: u64, requested: u64) -> bool
 }
 
 // Refusal 13, by the days of the calendar.
-fn is_timely_by_days(day: u64, asked: u64) -> bool
-    requires { (day < calendar_days) × (asked < calendar_days) }
+fn is_timely_by_days(day: Day, asked: Day) -> bool
     ensures { result ≡ not (ltb (day + 14) asked) && ltb (first_open day) (first_open asked) }
 {
-    if day + DAYS_AHEAD < asked {
+    if day.number() + DAYS_AHEAD < asked.number() {
         return false;
     }
-    is_early(day, open_from(asked))
+    is_early(day, first_open_day(asked))
 }
 
 // Refusal 13: whether a collect of the date comes in time for the requested date. By their days, but for the first of the calendar and
 // what is no date.
-#[tactic(auto, using(calendar::proofs::Laws::Answers::day_lt, crate::proofs::Laws::Collects::timely_days))]
+#[tactic(auto, using(crate::proofs::Laws::Collects::timely_days))]
 pub fn is_timely(date: u64, requested: u64) -> bool
     ensures { result ≡ timely date requested }
 {
-    match (day_number(date), day_number(requested)) {
-        (Some(day), Some(asked)) if OPEN_WITHIN <= asked => is_timely_by_days(day, asked),
+    match (Day::of(date), Day::of(requested)) {
+        (Some(day), Some(asked)) if OPEN_WITHIN <= asked.number() => is_timely_by_days(day, asked),
         _ => is_timely_by_dates(date, requested),
     }
 }

@@ -3,13 +3,12 @@
 -- `business_day_before`. Assumes nothing.
 use Rattle.std.proofs.Common.{None, Some}
 use mathlib.Core.Path.{◌≡◌, refl, sym, ap, ◌∙◌}
-use mathlib.Core.Bool.{Bool, true, false, cond}
+use mathlib.Core.Bool.{true, false}
 use Prim.Native.Nat.{ℕ, ◌+◌, ◌≤◌, ◌<◌}
 use native.Mathlib.Omega.{arith}
-use lib.Dec.{ltb}
 use Rattle.common.proofs.Tests.{never}
 use Rattle.calendar.specs.Gregorian.{leap, leap_day, month_length, is_date, in_range, last_date}
-use Rattle.calendar.specs.DayNumber.{calendar_days, days_before, year_start, day_number, day_of, in_calendar, date_at, date_of}
+use Rattle.calendar.specs.DayNumber.{calendar_days, days_before, year_start, day_number, day_of, date_at, date_of}
 use Rattle.calendar.specs.Easter.{computus, easter_sunday}
 use Rattle.calendar.specs.Target.{closed_by, closed, business_day, is_open, first_open, last_open_before, answer_date, first_business_day, last_business_day_before}
 use Rattle.calendar.proofs.Laws.Gregorian.{range_facts, in_range_lem}
@@ -18,25 +17,12 @@ use Rattle.calendar.proofs.Laws.Answers.{day_of_day_lem, day_of_none, date_of_is
 use Rattle.calendar.proofs.Laws.Target.{open_date, open_at}
 use Rattle.calendar.proofs.Laws.BusinessDays.{first_open_first, first_open_lt, last_open_exists}
 
--- ---- dated
-
-answer_date_case : (b : Bool) (n : ℕ) → ltb n calendar_days ≡ b → answer_date (cond b (Some n) None) ≡ date_of n
-unfolding date_of
-answer_date_case true n e = refl
-answer_date_case false n e = rw e
-
-pub answer_date_in_calendar : (n : ℕ) → answer_date (in_calendar n) ≡ date_of n
-unfolding in_calendar
-answer_date_in_calendar n = answer_date_case (ltb n calendar_days) n refl
-
 -- ---- first_business_day
 
 -- by the answer for the date's day
-pub first_business_day_day : (x n : ℕ) → day_of x ≡ Some n → first_business_day x ≡ answer_date (in_calendar (first_open n))
+pub first_business_day_day : (x n : ℕ) → day_of x ≡ Some n → first_business_day x ≡ date_of (first_open n)
 unfolding first_business_day
-first_business_day_day x n e =
-    let p = day_of_day_lem x n e in
-    rw (p.0, p.1) (sym (answer_date_in_calendar (first_open (day_number x))))
+first_business_day_day x n e = let p = day_of_day_lem x n e in rw (p.0, p.1)
 
 pub first_business_day_none : (x : ℕ) → day_of x ≡ None → first_business_day x ≡ None
 unfolding first_business_day

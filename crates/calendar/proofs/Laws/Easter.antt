@@ -54,6 +54,11 @@ pub table_easter : (k : ℕ) → k < 200 → get_or table k 0 ≡ month_day (eas
 unfolding right? easter_sunday computus
 table_easter k h = eqb-true _ _ (is_true _ (entry right? table tt k h))
 
+pub table_of_year : (y : ℕ) → first_year ≤ y → y ≤ last_year → get_or table (y - first_year) 0 ≡ month_day (easter_sunday y)
+table_of_year y a b =
+    let e : first_year + (y - first_year) ≡ y = omega arith in
+    rw e at (table_easter (y - first_year) (omega arith))
+
 -- ---- where Easter lies
 
 -- the day, from 0, of MMDD in March or April of a year with l leap days

@@ -10,7 +10,7 @@ use native.Mathlib.Omega.{arith}
 use lib.Dec.{eqb, lit≤}
 use lib.ListN.{get_or}
 use borrow.Author.Tests.{eqb-true, eq-eqb, ne_eqb}
-use Rattle.common.proofs.Tests.{never, true_or_false, true_unless, false_unless, any_of_at, any_of_cases}
+use Rattle.common.proofs.Tests.{never, either, true_unless, false_unless, any_of_at, any_of_cases}
 use Rattle.common.specs.Tests.{any_of}
 use Rattle.calendar.specs.Gregorian.{month_day, leap_day, month_length, first_year}
 use Rattle.calendar.specs.DayNumber.{calendar_days, days_before, year_start, day_number, year_at, date_at}
@@ -55,9 +55,8 @@ tests n =
 
 same_test : (a b c d : ℕ) → (a ≡ b → c ≡ d) → (c ≡ d → a ≡ b) → eqb a b ≡ eqb c d
 same_test a b c d f g =
-    ⊎_elim (λ (t : eqb a b ≡ true). rw t (sym (eq-eqb c d (f (eqb-true a b t)))))
-    (λ (t : eqb a b ≡ false). rw t (sym (ne_eqb c d (λ i. never (eq-eqb a b (g i)) t))))
-    (true_or_false (eqb a b))
+    either (eqb a b) (λ t. rw t (sym (eq-eqb c d (f (eqb-true a b t)))))
+    (λ t. rw t (sym (ne_eqb c d (λ i. never (eq-eqb a b (g i)) t))))
 
 module _ (n : ℕ) (h : n < calendar_days) where
   -- Easter Sunday is no earlier than 22 March and no later than 25 April
@@ -155,9 +154,7 @@ module _ (n : ℕ) (h : n < calendar_days) where
     -- near it
     pub near_open : not (eqb (day_in n + 2) (sunday_in n)) && not (eqb (day_in n) (sunday_in n + 1)) ≡ is_open n
     near_open =
-        ⊎_elim (λ (p : eqb (day_in n + 2) (sunday_in n) ≡ true). rw p (sym (shut_by 3 p)))
-        (λ (p : eqb (day_in n + 2) (sunday_in n) ≡ false).
-        ⊎_elim (λ (q : eqb (day_in n) (sunday_in n + 1) ≡ true). rw (p, q) (sym (shut_by 4 q)))
-        (λ (q : eqb (day_in n) (sunday_in n + 1) ≡ false). rw (p, q) (sym (open_by p q)))
-        (true_or_false (eqb (day_in n) (sunday_in n + 1))))
-        (true_or_false (eqb (day_in n + 2) (sunday_in n)))
+        either (eqb (day_in n + 2) (sunday_in n)) (λ p. rw p (sym (shut_by 3 p)))
+        (λ p.
+        either (eqb (day_in n) (sunday_in n + 1)) (λ q. rw (p, q) (sym (shut_by 4 q)))
+        (λ q. rw (p, q) (sym (open_by p q))))

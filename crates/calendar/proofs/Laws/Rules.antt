@@ -2,13 +2,12 @@
 -- Assumes nothing.
 use Rattle.calendar.proofs.Laws.Gregorian.{leap_day_le, date_valid}
 use Rattle.calendar.proofs.Laws.Months.{days_before_le, month_at_of}
-use Rattle.calendar.proofs.Laws.Years.{year_start_le, year_at_of}
+use Rattle.calendar.proofs.Laws.Years.{year_start_le, year_at_of, by_fours}
 use Rattle.calendar.proofs.Laws.DayNumber.{day_number_lt, rest_lt}
-use Rattle.calendar.proofs.Laws.Answers.{day_lt, in_calendar_day}
+use Rattle.calendar.proofs.Laws.Answers.{day_lt, in_calendar_day, in_calendar_is, in_calendar_none, in_calendar_beyond, date_of_is, date_of_beyond}
 use Rattle.calendar.proofs.Laws.Easter.{table_years, easter_of_is, easter_day_of_date, easter_day_of_none}
-use Rattle.calendar.proofs.Laws.Target.{open_beyond}
 use Rattle.calendar.proofs.Laws.Open.{weekend_shut}
-use Rattle.calendar.proofs.Laws.BusinessDays.{open_after_zero, open_after_more}
+use Rattle.calendar.proofs.Laws.BusinessDays.{first_open_from, first_open_lt, open_after_zero, open_after_more}
 use Rattle.calendar.proofs.Laws.BusinessDates.{first_business_day_day, first_business_day_none, last_business_day_day, last_business_day_none}
 use Rattle.calendar.proofs.Laws.Periods.{days_after_day, days_after_none, days_between_days, days_between_later, days_between_no_start, days_between_no_end, business_days_after_day, business_days_after_none, day_of_month_count_day, day_of_month_count_last, months_after_none, months_after_beyond, months_after_is, month_count_is, period_end_no_months, period_end_day, period_end_beyond}
 use Rattle.calendar.proofs.Laws.MonthCounts.{months_after_is_date}
@@ -25,13 +24,17 @@ pub ruleset of_number = (date_valid, leap_day_le, year_start_le, days_before_le)
 
 pub ruleset of_date_in = (month_at_of, leap_day_le)
 
-pub ruleset of_date_at = (year_at_of, rest_lt)
+pub ruleset of_date_of = (in_calendar_day, in_calendar_none, date_of_beyond)
+
+pub ruleset of_place = (by_fours, year_at_of)
+
+pub ruleset of_date_at = (year_at_of, rest_lt, date_of_is)
 
 -- ---- src/target.rt
 
-pub ruleset of_open_in = (year_at_of, leap_day_le)
+pub ruleset of_is_open_day = (leap_day_le, weekend_shut)
 
-pub ruleset of_is_open = (open_beyond, weekend_shut)
+pub ruleset of_first_open = (in_calendar_day, in_calendar_is, in_calendar_none, in_calendar_beyond, first_open_from, first_open_lt)
 
 pub ruleset of_first_business_day = (first_business_day_day, first_business_day_none)
 
@@ -51,4 +54,4 @@ pub ruleset of_day_of_month = (day_of_month_count_day, day_of_month_count_last)
 
 pub ruleset of_months_after = (months_after_none, months_after_beyond, months_after_is, month_count_is)
 
-pub ruleset of_period_end = (day_number_lt, months_after_is_date, period_end_no_months, period_end_day, period_end_beyond)
+pub ruleset of_period_end = (day_number_lt, months_after_is_date, period_end_no_months, period_end_day, period_end_beyond, in_calendar_day, in_calendar_none)

@@ -8,10 +8,10 @@ use Prim.Native.Nat.{ℕ, ◌+◌, ◌≤◌, ◌<◌}
 use native.Mathlib.Nat.{eq-or-lt_of_le}
 use native.Mathlib.Omega.{arith}
 use lib.Dec.{ltb}
-use borrow.Author.Tests.{lt-ltb, le-ltb, ltb-true}
+use borrow.Author.Tests.{lt-ltb, le-ltb, ltb-true, ltb-false}
 use Rattle.common.proofs.Tests.{never, and_halves}
 use Rattle.calendar.specs.Gregorian.{month_day, leap, leap_day, month_length, is_date, first_year}
-use Rattle.calendar.specs.DayNumber.{calendar_days, days_before, year_start, day_number, day_of, year_at, month_at, date_in, date_at}
+use Rattle.calendar.specs.DayNumber.{calendar_days, days_before, year_start, day_number, day_of, in_calendar, year_at, month_at, date_in, date_at}
 use Rattle.calendar.specs.Easter.{computus, easter_sunday}
 use Rattle.calendar.specs.Target.{closed_by, closed, business_day, is_open, First}
 use Rattle.calendar.proofs.Laws.DayNumber.{date_at_date, day_number_date_at, year_date_at, date_at_day_number, day_number_lt}
@@ -42,6 +42,15 @@ open_at n h = rw (lt-ltb n calendar_days h)
 
 pub open_date : (x : ℕ) → is_date x ≡ true → is_open (day_number x) ≡ business_day x
 open_date x e = open_at (day_number x) (day_number_lt x e) ∙ ap business_day (date_at_day_number x e)
+
+-- a number is that of a business day if it is that of a day, and the day is one
+pub day_open : (n : ℕ) → MatchOption (in_calendar n) (is_open n ≡ false) (λ d. is_open d ≡ is_open n)
+unfolding in_calendar
+day_open n = day_open_case (ltb n calendar_days) refl
+  where
+    day_open_case : (b : Bool) → ltb n calendar_days ≡ b → MatchOption (cond b (Some n) None) (is_open n ≡ false) (λ d. is_open d ≡ is_open n)
+    day_open_case true e = refl
+    day_open_case false e = open_beyond n (ltb-false n calendar_days e)
 
 -- a date's day, if there is one, is a business day when the date is
 pub day_business : (x : ℕ) → MatchOption (day_of x) (business_day x ≡ false) (λ n. is_open n ≡ business_day x)
