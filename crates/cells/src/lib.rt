@@ -1,4 +1,5 @@
-// What a program in another language lends beside the tables: cells of a state, of cents and of an event. What stands where: specs/Cells.
+// What a program in another language lends beside the tables: cells of a state, of cents and of an event, flat as C has them and no
+// structs. What stands where: specs/Cells.
 // Every function answers for any number of cells: a cell that is not there reads 0, and nothing is stored to it.
 #![tactic(auto)]
 

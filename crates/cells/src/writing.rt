@@ -1,6 +1,6 @@
 // Cells written: specs/Cells.
 ghost use Rattle.std.specs.Prelude.{◌≡◌, set};
-ghost use Rattle.model.specs.Step.{query_number};
+ghost use Rattle.refusals.specs.Refusals.{answer_number};
 ghost use Rattle.cells.specs.Cells.{header_state, header_cents, counts_state, written_state, figure_cents, fresh_state, fresh_cents};
 
 use crate::{
@@ -52,20 +52,14 @@ pub fn put_fresh(state: &mut [u64], cents: &mut [i64])
     ensures state { state.new ≡ fresh_state state.old }
     ensures cents { cents.new ≡ fresh_cents cents.old }
 {
-    let header = Header {
-        latest: 0,
-        mandates: 0,
-        collections: 0,
-        compensation: 0,
-    };
-    put_header(header, state, cents);
+    put_header(Header::default(), state, cents);
     put_counts(Counts::default(), state);
     put(cents, FIGURE, 0);
 }
 
 // The number of the answer to a position query; its figure is written where there is one.
 pub fn put_query(answer: Result<i64, Refusal>, cents: &mut [i64]) -> u64
-    ensures number { result ≡ query_number answer }
+    ensures number { result ≡ answer_number answer }
     ensures cents { cents.new ≡ figure_cents answer cents.old }
 {
     if let Ok(figure) = answer {

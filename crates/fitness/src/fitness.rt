@@ -2,9 +2,9 @@
 ghost use Rattle.std.specs.Prelude.{◌≡◌, ◌≤◌, ◌<◌, length};
 ghost use Rattle.common.specs.Tests.{all_of};
 ghost use Rattle.tables.specs.Limits.{stride};
-ghost use Rattle.tables.specs.Rows.{rows};
+ghost use Rattle.tables.specs.Rows.{rows, row_at};
 ghost use Rattle.tables.specs.Ledger.{ledger_of};
-ghost use Rattle.fitness.specs.Fitness.{none_or_date, position_fit, compensation_fit, row_count_fit, sizes_of, header_of, row_fit, rows_fit, named_tests, mandate_fit, day_fit, collection_fit, creditor_fit, creditors_fit, positions_fit, fit};
+ghost use Rattle.fitness.specs.Fitness.{none_or_date, position_fit, compensation_fit, row_count_fit, sizes_of, header_of, rows_fit, named_tests, mandate_fit, day_fit, collection_fit, creditor_fit, creditors_fit, positions_fit, fit};
 
 use calendar::gregorian::in_range;
 use common::{
@@ -70,6 +70,14 @@ fn header_fit(header: Header, mandates: &[u64], collections: &[u64]) -> bool
         & compensation_fit(header.compensation)
 }
 
+// The cells of a row, in either table.
+fn row_cells(cells: &[u64], row: usize) -> &[u64; STRIDE]
+    requires { row < rows cells.now }
+    ensures { result.now ≡ row_at stride cells.now row }
+{
+    cells[row * STRIDE..].first_chunk().unwrap()
+}
+
 // The number and the parties of a row, in either table.
 fn named_fit(creditors: &[u64], number: u64, creditor: u64, debtor: u64) -> bool
     ensures { result ≡ all_of (named_tests creditors.now number creditor debtor) }
@@ -82,8 +90,7 @@ fn named_fit(creditors: &[u64], number: u64, creditor: u64, debtor: u64) -> bool
 
 // The cells of one mandate row.
 #[tactic(auto, unfolding(crate::specs::Fitness::mandate_fit))]
-fn mandate_fit(creditors: &[u64], fields: &[u64]) -> bool
-    requires { length fields.now ≡ stride }
+fn mandate_fit(creditors: &[u64], fields: &[u64; STRIDE]) -> bool
     ensures { result ≡ mandate_fit creditors.now fields.now }
 {
     let bank = fields[mandate_column::BANK];
@@ -100,20 +107,12 @@ fn mandate_fit(creditors: &[u64], fields: &[u64]) -> bool
         & none_or_date(fields[mandate_column::PRESENTED])
 }
 
-fn mandate_row_fit(creditors: &[u64], cells: &[u64], row: usize) -> bool
-    requires { row < rows cells.now }
-    ensures { result ≡ row_fit (mandate_fit creditors.now) cells.now row }
-{
-    let b = row * STRIDE;
-    mandate_fit(creditors, &cells[b..b + STRIDE])
-}
-
 // One line, like `collections_fit`: with the test of a row as a parameter both would be as long.
 fn mandates_fit(creditors: &[u64], cells: &[u64], used: usize) -> bool
     requires { used ≤ rows cells.now }
     ensures { result ≡ rows_fit (mandate_fit creditors.now) cells.now used }
 {
-    (0..used).all(|row| mandate_row_fit(creditors, cells, row))
+    (0..used).all(|row| mandate_fit(creditors, row_cells(cells, row)))
 }
 
 // The day of a state, by its tag; it is looked at in a settled or undone row alone.
@@ -125,8 +124,7 @@ fn day_fit(latest: u64, tag: u64, day: u64) -> bool
 
 // The cells of one collection row.
 #[tactic(auto, unfolding(crate::specs::Fitness::collection_fit))]
-fn collection_fit(latest: u64, creditors: &[u64], fields: &[u64]) -> bool
-    requires { length fields.now ≡ stride }
+fn collection_fit(latest: u64, creditors: &[u64], fields: &[u64; STRIDE]) -> bool
     ensures { result ≡ collection_fit latest creditors.now fields.now }
 {
     let cbank = fields[collection_column::CBANK];
@@ -146,19 +144,11 @@ fn collection_fit(latest: u64, creditors: &[u64], fields: &[u64]) -> bool
         & day_fit(latest, tag, fields[collection_column::DAY])
 }
 
-fn collection_row_fit(latest: u64, creditors: &[u64], cells: &[u64], row: usize) -> bool
-    requires { row < rows cells.now }
-    ensures { result ≡ row_fit (collection_fit latest creditors.now) cells.now row }
-{
-    let b = row * STRIDE;
-    collection_fit(latest, creditors, &cells[b..b + STRIDE])
-}
-
 fn collections_fit(latest: u64, creditors: &[u64], cells: &[u64], used: usize) -> bool
     requires { used ≤ rows cells.now }
     ensures { result ≡ rows_fit (collection_fit latest creditors.now) cells.now used }
 {
-    (0..used).all(|row| collection_row_fit(latest, creditors, cells, row))
+    (0..used).all(|row| collection_fit(latest, creditors, row_cells(cells, row)))
 }
 
 // One creditor's bank and position.

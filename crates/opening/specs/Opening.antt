@@ -1,17 +1,12 @@
 -- Document 01, "Records": "Opening makes a ledger with no rows and all positions 0." Row counts and table
 -- sizes are all that it judges: unfit ones get 2, fit ones never. It writes no cell of a row.
 -- To cite: proofs/Laws/Opening. Assumes nothing.
-use Rattle.std.specs.Prelude.{cond, ℕ, pos, replicate, Result}
-use Rattle.refusals.specs.declared.Refusal.{Refusal}
-use Rattle.refusals.specs.Refusals.{number_of, answer_number}
+use Rattle.std.specs.Prelude.{cond, ℕ, pos, replicate}
+use Rattle.refusals.specs.Refusals.{number_of}
 use Rattle.refusals.specs.declared.Refusal.TheVariants.{UnfitMemory}
 use Rattle.tables.specs.Limits.{creditor_count, debtor_count, bank_count}
 use Rattle.tables.specs.Ledger.{Ledger}
 use Rattle.fitness.specs.Fitness.{sizes_fit}
-
--- the paper's number of an answer: 0 accepted
-abbrev pub open_number : Result Unit Refusal → ℕ
-open_number a = answer_number a
 
 -- no rows used, no creditor, all positions, the compensation and the latest date 0; the rows' cells as they were
 unfoldable pub fresh : Ledger → Ledger

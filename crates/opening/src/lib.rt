@@ -2,8 +2,9 @@
 #![tactic(auto)]
 
 ghost use Rattle.std.specs.Prelude.{◌≡◌};
+ghost use Rattle.refusals.specs.Refusals.{answer_number};
 ghost use Rattle.tables.specs.Ledger.{ledger};
-ghost use Rattle.opening.specs.Opening.{open_number, open_result, opening};
+ghost use Rattle.opening.specs.Opening.{open_result, opening};
 
 use fitness::fitness::sizes_fit;
 use refusals::Refusal;
@@ -11,6 +12,7 @@ use tables::Header;
 
 // A ledger with no rows and all positions 0. The cells of the rows stay as they are: they are lent to be read, as C lends them, and
 // so no `BookMut` goes here.
+#[tactic(auto, using(crate::proofs::Laws::Opening::opening_steps))]
 pub fn open_ledger(
     header: &mut Header,
     mandates: &[u64],
@@ -20,7 +22,7 @@ pub fn open_ledger(
     debtor_positions: &mut [i64],
     bank_positions: &mut [i64],
 ) -> Result<(), Refusal>
-    ensures { open_result (open_number result) (ledger header.new mandates.now collections.now creditors.new creditor_positions.new debtor_positions.new bank_positions.new)
+    ensures { open_result (answer_number result) (ledger header.new mandates.now collections.now creditors.new creditor_positions.new debtor_positions.new bank_positions.new)
         ≡ opening (ledger header.old mandates.now collections.now creditors.old creditor_positions.old debtor_positions.old bank_positions.old) }
 {
     if !sizes_fit(
@@ -37,11 +39,6 @@ pub fn open_ledger(
     creditor_positions.fill(0);
     debtor_positions.fill(0);
     bank_positions.fill(0);
-    *header = Header {
-        latest: 0,
-        mandates: 0,
-        collections: 0,
-        compensation: 0,
-    };
+    *header = Header::default();
     Ok(())
 }

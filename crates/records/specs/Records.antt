@@ -108,10 +108,10 @@ collect_checks latest date p there collection room m = mandate_terms latest date
 abbrev pub collect_judged : ℕ → ℕ → Presentation → Bool → Option ℕ → Bool → Mandate → Result Unit Refusal
 collect_judged latest date p there collection room m = judged (collect_checks latest date p there collection room m) (Ok tt)
 
--- the verdict: refused, or the kept due
-abbrev pub verdict_by : Result Unit Refusal → ℕ → Result ℕ Refusal
-verdict_by (Ok tt) due = Ok due
-verdict_by (Err r) due = Err r
+-- the verdict: refused, or what is presented
+abbrev pub verdict_by : Result Unit Refusal → Presentation → Result Presentation Refusal
+verdict_by (Ok tt) p = Ok p
+verdict_by (Err r) p = Err r
 
 abbrev pub collect_answer : Option ℕ → Option ℕ → Ledger → ℕ → Presentation → Result Unit Refusal
 collect_answer mandate collection l date p =

@@ -13,9 +13,31 @@ use checking::{first_failing, found_row, none_fails};
 use deadlines::collects::{is_lapsed, is_timely, kept_due};
 use model::Presentation;
 use refusals::Refusal;
+use std::marker::Model;
 use tables::creditors::bank_of;
 use tables::rows::{put_record, rows_of};
 use tables::{BookMut, Collection, Mandate, Standing, State};
+
+// A presentation with its kept due, which is worked out once. Clauses see the presentation.
+#[derive(Clone, Copy)]
+struct KeptPresentation {
+    asked: Presentation,
+    due: u64,
+}
+
+impl Model for KeptPresentation {
+    ghost use Rattle.std.specs.Prelude.{◌≡◌};
+    ghost use Rattle.model.specs.declared.Presentation.{Presentation};
+    ghost use Rattle.model.specs.Deadlines.{kept_due};
+
+    ghost Value = { Presentation };
+
+    ghost view = { λ k. k.asked };
+
+    ghost invariant = { λ k. k.due ≡ kept_due k.asked.requested };
+
+    ghost inverse = { λ p. record { asked = p; due = kept_due p.requested } };
+}
 
 // Whether the mandate takes the sequence code: 0 FRST, 1 RCUR, 2 FNAL, 3 OOFF.
 fn takes_code(m: Mandate, code: u64) -> bool
@@ -51,27 +73,30 @@ fn judge_terms(
     first_failing(tests)
 }
 
-// Refusals 13 and 14 of a collect on the mandate m, whose kept due is `due`.
-fn judge_dates(date: u64, p: Presentation, m: Mandate, due: u64) -> Result<(), Refusal>
-    requires { due ≡ kept_due p.requested }
+// Refusals 13 and 14 of a collect on the mandate m.
+fn judge_dates(date: u64, p: KeptPresentation, m: Mandate) -> Result<(), Refusal>
     ensures { result ≡ judged (date_terms date p m) (Ok tt) }
 {
     let mut tests = none_fails();
-    tests.time = is_timely(date, p.requested);
-    tests.lapse = !is_lapsed(due, m.presented, m.signed);
+    tests.time = is_timely(date, p.asked.requested);
+    tests.lapse = !is_lapsed(p.due, m.presented, m.signed);
     first_failing(tests)
 }
 
-// The verdict by the dates of a collect on the mandate m: its kept due.
-fn judge_due(date: u64, p: Presentation, m: Mandate) -> Result<u64, Refusal>
-    ensures { result ≡ verdict_by (judged (date_terms date p m) (Ok tt)) (kept_due p.requested) }
+// The verdict by the dates of a collect on the mandate m: what is presented, with its kept due.
+fn judge_due(date: u64, p: Presentation, m: Mandate) -> Result<KeptPresentation, Refusal>
+    ensures { result ≡ verdict_by (judged (date_terms date p m) (Ok tt)) p }
 {
-    let due = kept_due(p.requested);
-    judge_dates(date, p, m, due)?;
-    Ok(due)
+    let kept = KeptPresentation {
+        asked: p,
+        due: kept_due(p.requested),
+    };
+    judge_dates(date, kept, m)?;
+    Ok(kept)
 }
 
-// The verdict on a collect on the mandate m: its kept due. The dates are worked out only where nothing refuses before.
+// The verdict on a collect on the mandate m: what is presented, with its kept due. The dates are worked out only where nothing
+// refuses before.
 fn judge_collect(
     book: &BookMut,
     date: u64,
@@ -79,8 +104,8 @@ fn judge_collect(
     there: bool,
     collection: Option<usize>,
     m: Mandate,
-) -> Result<u64, Refusal>
-    ensures { result ≡ verdict_by (collect_judged book.now.header.latest date p there collection (ltb book.now.header.collections (rows book.now.collections.now)) m) (kept_due p.requested) }
+) -> Result<KeptPresentation, Refusal>
+    ensures { result ≡ verdict_by (collect_judged book.now.header.latest date p there collection (ltb book.now.header.collections (rows book.now.collections.now)) m) p }
 {
     judge_terms(book, date, p, there, collection, m)?;
     judge_due(date, p, m)
@@ -98,32 +123,30 @@ fn standing_after(code: u64, standing: Standing) -> Standing
 
 // The mandate after the presentation: FRST clears "due", the kept due is the one last presented.
 #[tactic(auto, unfolding(model::specs::Effects::presented_on))]
-fn presented_on(p: Presentation, m: Mandate, due: u64) -> Mandate
-    requires { due ≡ kept_due p.requested }
+fn presented_on(p: KeptPresentation, m: Mandate) -> Mandate
     ensures { result ≡ presented_on p m }
 {
     Mandate {
-        standing: standing_after(p.code, m.standing),
-        first: m.first & (p.code != 0),
-        presented: due,
+        standing: standing_after(p.asked.code, m.standing),
+        first: m.first & (p.asked.code != 0),
+        presented: p.due,
         ..m
     }
 }
 
 // The collection, with the parties and both banks as they are now.
 #[tactic(auto, unfolding(model::specs::Effects::new_collection))]
-fn new_collection(book: &BookMut, p: Presentation, m: Mandate, due: u64) -> Collection
-    requires { due ≡ kept_due p.requested }
+fn new_collection(book: &BookMut, p: KeptPresentation, m: Mandate) -> Collection
     ensures { result ≡ new_collection book.now.creditors.now p m }
 {
     Collection {
-        number: p.collection,
+        number: p.asked.collection,
         creditor: m.creditor,
         debtor: m.debtor,
         cbank: bank_of(book.creditors, m.creditor),
         dbank: m.bank,
-        amount: p.amount,
-        due,
+        amount: p.asked.amount,
+        due: p.due,
         state: State::Presented,
     }
 }
@@ -141,10 +164,10 @@ pub fn collect(
 {
     let there = mandate_there(book, mandate);
     let m = mandate_in(book, mandate);
-    let due = judge_collect(book, date, p, there, collection, m)?;
+    let kept = judge_collect(book, date, p, there, collection, m)?;
     let used = book.header.collections;
-    let c = new_collection(book, p, m, due);
-    put_record(book.mandates, found_row(mandate), presented_on(p, m, due));
+    let c = new_collection(book, kept, m);
+    put_record(book.mandates, found_row(mandate), presented_on(kept, m));
     put_record(book.collections, used, c);
     book.header.latest = date;
     book.header.collections = used + 1;

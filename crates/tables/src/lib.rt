@@ -1,5 +1,6 @@
 // Document 01, "Records", in lent memory: mandates and collections in rows of cells, lookup by number, creditors and their banks.
-// The lender gives any sizes and any content, and every public function answers for them.
+// The lender gives any sizes and any content, and every public function answers for them. Rows are cells one behind the other with the
+// number of those used beside them, no Vec of records: there is no heap, and C lends them so.
 #![tactic(auto)]
 
 ghost use Rattle.std.specs.Prelude.{◌≡◌};
@@ -12,7 +13,7 @@ pub mod mandate_column;
 pub mod rows;
 
 // What is lent beside the tables: the latest date, the rows used and the total compensation in cents.
-#[derive(Clone, Copy)]
+#[derive(Clone, Copy, Debug, Default, PartialEq, Eq)]
 pub struct Header {
     pub latest: u64,
     pub mandates: usize,

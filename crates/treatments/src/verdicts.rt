@@ -1,7 +1,7 @@
 // The verdict on an event of kind 6 to 10: refusals 6 to 17 in their order, or all that is to be written. It reads alone.
 ghost use Rattle.std.specs.Prelude.{◌≡◌};
 ghost use Rattle.model.specs.Checks.{is_presented, is_settled, settled_on, day_treated, state_fits, due_treated, time_treated};
-ghost use Rattle.model.specs.Effects.{undoing_of as undoingIn, state_after, treated as treatedBy};
+ghost use Rattle.model.specs.Effects.{state_after, treated as treatedBy};
 ghost use Rattle.common.specs.Checks.{judged};
 ghost use Rattle.treatments.specs.Treatments.{first_checks, last_checks, treat_judged, post_verdict, go_verdict, verdict_on};
 
@@ -9,7 +9,7 @@ use crate::undoing::undone;
 use calendar::target::is_business_day;
 use checking::{first_failing, none_fails};
 use deadlines::undoings::is_in_time;
-use model::{Treatment, Way};
+use model::Treatment;
 use positions::Postings;
 use positions::amounts::settlement;
 use refusals::Refusal;
@@ -84,23 +84,13 @@ fn time_fits(t: Treatment, s: State, date: u64) -> bool
     }
 }
 
-fn undoing_of(way: Way) -> Undoing
-    ensures { result ≡ undoingIn way }
-{
-    match way {
-        Way::ByReturn => Undoing::Return,
-        Way::ByRefund(_, _) => Undoing::Refund,
-        Way::ByReversal => Undoing::Reversal,
-    }
-}
-
 fn state_after(t: Treatment, date: u64) -> State
     ensures { result ≡ state_after t date }
 {
     match t {
         Treatment::Settle => State::Settled(date),
         Treatment::Reject => State::Rejected,
-        Treatment::Undo(way) => State::Undone(date, undoing_of(way)),
+        Treatment::Undo(way) => State::Undone(date, Undoing::from(way)),
     }
 }
 

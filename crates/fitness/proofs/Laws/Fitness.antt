@@ -16,7 +16,7 @@ use lib.ListN.{length, get_or, set, length-set}
 use lib.Seq.{get_or-set_same, get_or-set_other}
 use Rattle.common.specs.Tests.{all_of}
 use Rattle.common.specs.Walk.{all_from}
-use Rattle.common.proofs.Tests.{never, true_or_false, and_halves, and_true, or_cases, all_of_at}
+use Rattle.common.proofs.Tests.{never, either, and_halves, and_true, or_cases, all_of_at}
 use Rattle.common.proofs.Made.{all_of_made, all_of_set}
 use Rattle.common.proofs.Walk.{all_from_at, all_from_made}
 use Rattle.calendar.specs.Gregorian.{in_range}
@@ -183,14 +183,13 @@ module _ (test : List ℕ → Bool) (cells : List ℕ) where
   rows_fit_put used more row fields n e t h old =
       all_from_made (row_fit test (put_row stride cells row fields)) more
       (λ k l.
-      ⊎_elim
+      either (eqb k row)
       (λ q.
       let p = eqb-true k row q in
       rw p (ap test (row_at_put_same stride cells row fields n (omega arith) h) ∙ t))
       (λ q.
       let ne = eqb-false k row q in
-      ap test (row_at_put_other stride cells row fields n k ne) ∙ rows_fit_at used e k (old k l ne))
-      (true_or_false (eqb k row)))
+      ap test (row_at_put_other stride cells row fields n k ne) ∙ rows_fit_at used e k (old k l ne)))
 
   -- at a used row
   pub rows_fit_put_used :
@@ -487,15 +486,13 @@ module _ (creditors : List ℕ) (positions : List ℤ) where
   -- every creditor's bank is none or one of the banks
   pub creditors_fit_bank : creditors_fit creditors positions ≡ true → (number : ℕ) → bank_of creditors number ≤ bank_count
   creditors_fit_bank e number =
-      ⊎_elim
+      either (eqb number 0)
       (λ z. rw (bank_of_zero creditors number (eqb-true number 0 z)) (omega arith))
       (λ z.
       let ne = eqb-false number 0 z in
-      ⊎_elim
+      either (ltb (number - 1) (length creditors))
       (λ h. rw (bank_of_at creditors number ne) (creditors_fit_at e (number - 1) (ltb-true (number - 1) (length creditors) h)).bank_fit)
-      (λ h. rw (bank_of_past creditors number ne (ltb-false (number - 1) (length creditors) h)) (omega arith))
-      (true_or_false (ltb (number - 1) (length creditors))))
-      (true_or_false (eqb number 0))
+      (λ h. rw (bank_of_past creditors number ne (ltb-false (number - 1) (length creditors) h)) (omega arith)))
 
 -- a creditor is added
 pub creditors_fit_added :
@@ -505,14 +502,13 @@ creditors_fit_added creditors positions i bank e low high =
     creditors_fit_made (set creditors i bank) positions
     (λ k h.
     let in_table : k < length creditors = rw length-set at h in
-    ⊎_elim
+    either (eqb k i)
     (λ q.
     let p = eqb-true k i q in
     let here : i < length creditors = rw p at in_table in
     rw (p, get_or-set_same creditors i bank 0 here)
     (creditor_made bank (get_or positions i (pos 0)) low high (creditors_fit_at creditors positions e i here).position_fit_lem))
-    (λ q. rw (get_or-set_other creditors i k bank 0 (eqb-false k i q)) (test_entry creditors positions e k in_table))
-    (true_or_false (eqb k i)))
+    (λ q. rw (get_or-set_other creditors i k bank 0 (eqb-false k i q)) (test_entry creditors positions e k in_table)))
 
 -- an added creditor's position changes
 pub creditors_fit_posted :
@@ -522,14 +518,13 @@ pub creditors_fit_posted :
 creditors_fit_posted creditors positions i z e room low f =
     creditors_fit_made creditors (set positions i z)
     (λ k h.
-    ⊎_elim
+    either (eqb k i)
     (λ q.
     let p = eqb-true k i q in
     let here : i < length creditors = rw p at h in
     rw (p, get_or-set_same positions i z (pos 0) room)
     (creditor_made (get_or creditors i 0) z low (creditors_fit_at creditors positions e i here).bank_fit f))
-    (λ q. rw (get_or-set_other positions i k z (pos 0) (eqb-false k i q)) (test_entry creditors positions e k h))
-    (true_or_false (eqb k i)))
+    (λ q. rw (get_or-set_other positions i k z (pos 0) (eqb-false k i q)) (test_entry creditors positions e k h)))
 
 -- ---- positions of debtors and banks
 
@@ -552,13 +547,12 @@ positions_fit_posted positions i z e f =
     positions_fit_made (set positions i z)
     (λ k h.
     let in_table : k < length positions = rw length-set at h in
-    ⊎_elim
+    either (eqb k i)
     (λ q.
     let p = eqb-true k i q in
     let here : i < length positions = rw p at in_table in
     rw (p, get_or-set_same positions i z (pos 0) here) f)
-    (λ q. rw (get_or-set_other positions i k z (pos 0) (eqb-false k i q)) (positions_fit_at positions e k in_table))
-    (true_or_false (eqb k i)))
+    (λ q. rw (get_or-set_other positions i k z (pos 0) (eqb-false k i q)) (positions_fit_at positions e k in_table)))
 
 -- ---- all of it
 

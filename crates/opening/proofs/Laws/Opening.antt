@@ -3,12 +3,11 @@
 use mathlib.Core.Path.{◌≡◌, refl, ◌∙◌, ap}
 use mathlib.Core.Bool.{true, false}
 use mathlib.Core.List.{List}
-use mathlib.Core.Logic.{⊎_elim}
 use Prim.Native.Nat.{ℕ, ◌<◌}
 use native.Mathlib.Omega.{arith}
 use lib.ListN.{length, replicate, length-replicate, get_or-replicate}
 use lib.IntN.{ℤ, pos}
-use Rattle.common.proofs.Tests.{true_or_false}
+use Rattle.common.proofs.Tests.{either}
 use Rattle.tables.specs.Limits.{creditor_count, debtor_count, bank_count}
 use Rattle.tables.specs.Ledger.{Ledger, ledger}
 use Rattle.fitness.specs.Fitness.{position_fit, sizes_fit, mandate_fit, collection_fit, creditor_fit, creditors_fit, positions_fit, fit}
@@ -72,11 +71,11 @@ module _ (l : Ledger) where
 
   pub opened_mandates : (opened l).mandates ≡ l.mandates
   unfolding opened
-  opened_mandates = ⊎_elim (λ e. rw e fresh_mandates) (λ e. rw e) (true_or_false (sizes_fit l))
+  opened_mandates = either (sizes_fit l) (λ e. rw e fresh_mandates) (λ e. rw e)
 
   pub opened_collections : (opened l).collections ≡ l.collections
   unfolding opened
-  opened_collections = ⊎_elim (λ e. rw e fresh_collections) (λ e. rw e) (true_or_false (sizes_fit l))
+  opened_collections = either (sizes_fit l) (λ e. rw e fresh_collections) (λ e. rw e)
 
   fresh_sizes : Sizes l → Sizes (fresh l)
   unfolding fresh
@@ -111,3 +110,6 @@ module _ (l : Ledger) where
 
   pub opened_fit : sizes_fit l ≡ true → fit (opened l) ≡ true
   opened_fit e = ap fit (opened_done e) ∙ fresh_fit e
+
+-- what `open_ledger` answers and leaves
+pub ruleset opening_steps = (opening_refused, opening_filled)

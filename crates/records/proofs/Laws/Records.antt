@@ -20,7 +20,6 @@ use Rattle.tables.specs.Rows.{rows, mandate_at, collection_at}
 use Rattle.model.specs.declared.Action.TheVariants.{AddCreditor, AddMandate, ChangeMandate, Collect}
 use Rattle.model.specs.declared.Change.{Change}
 use Rattle.model.specs.declared.Presentation.{Presentation}
-use Rattle.model.specs.Deadlines.{kept_due}
 use Rattle.model.specs.Lookups.{is_known, in_row, mandate_of, collection_of}
 use Rattle.model.specs.Checks.{ruled}
 use Rattle.model.specs.Effects.{effect}
@@ -30,25 +29,27 @@ use Rattle.records.specs.Records.{verdict_by, mandate_in, CreditorAdded, Mandate
 
 -- ---- the verdict on a collect
 
-pub verdict_go : (a : Result Unit Refusal) (due x : ℕ) → verdict_by a due ≡ Ok x → (a ≡ (Ok tt)) × (x ≡ due)
-verdict_go (Ok tt) due x e = (refl, cc)
-verdict_go (Err r) due x e = let z : ◌≡◌ {A = ℕ} 0 1 = cc in absurd (omega arith)
+pub verdict_go : (a : Result Unit Refusal) (p x : Presentation) → verdict_by a p ≡ Ok x → (a ≡ (Ok tt)) × (x ≡ p)
+verdict_go (Ok tt) p x e = (refl, cc)
+verdict_go (Err r) p x e = let z : ◌≡◌ {A = ℕ} 0 1 = cc in absurd (omega arith)
 
-pub verdict_refuse : (a : Result Unit Refusal) (due : ℕ) (r : Refusal) → verdict_by a due ≡ Err r → a ≡ Err r
-verdict_refuse (Ok tt) due r e = let z : ◌≡◌ {A = ℕ} 0 1 = cc in absurd (omega arith)
-verdict_refuse (Err x) due r e = cc
+verdict_refuse : (a : Result Unit Refusal) (p : Presentation) (r : Refusal) → verdict_by a p ≡ Err r → a ≡ Err r
+verdict_refuse (Ok tt) p r e = let z : ◌≡◌ {A = ℕ} 0 1 = cc in absurd (omega arith)
+verdict_refuse (Err x) p r e = cc
 
 module _ (mandate collection : Option ℕ) (l : Ledger) (date : ℕ) (p : Presentation) where
   pub collected_refused :
-      (x : Refusal) (r : Result Unit Refusal) → verdict_by (collect_answer mandate collection l date p) (kept_due p.requested) ≡ Err x
+      (x : Refusal) (r : Result Unit Refusal) → verdict_by (collect_answer mandate collection l date p) p ≡ Err x
       → r ≡ Err x → Collected mandate collection l date p r l
   collected_refused x r e f =
-      rw f (done_refused _ l _ x (verdict_refuse (collect_answer mandate collection l date p) (kept_due p.requested) x e))
+      rw f (done_refused _ l _ x (verdict_refuse (collect_answer mandate collection l date p) p x e))
 
   pub collected_done :
-      (due : ℕ) (l' : Ledger) → verdict_by (collect_answer mandate collection l date p) (kept_due p.requested) ≡ Ok due
-      → l' ≡ collect_effect mandate l date p → Collected mandate collection l date p (Ok tt) l'
-  collected_done due l' e f = done_accepted _ _ _ l' (verdict_go (collect_answer mandate collection l date p) (kept_due p.requested) due e).0 f
+      (k : Presentation) (l' : Ledger) → verdict_by (collect_answer mandate collection l date p) p ≡ Ok k
+      → l' ≡ collect_effect mandate l date k → Collected mandate collection l date p (Ok tt) l'
+  collected_done k l' e f =
+      let v = verdict_go (collect_answer mandate collection l date p) p k e in
+      done_accepted _ _ _ l' v.0 (rw v.1 at f)
 
 -- ---- the model's answers and effects
 

@@ -2,13 +2,13 @@
 use mathlib.Core.Path.{◌≡◌, refl, sym, ◌∙◌, ap}
 use mathlib.Core.Bool.{true, not}
 use mathlib.Core.List.{List}
-use mathlib.Core.Logic.{◌≢◌, ⊎_elim}
+use mathlib.Core.Logic.{◌≢◌}
 use Prim.Native.Nat.{ℕ, ◌-◌, ◌≤◌}
 use borrow.Author.Tests.{eq-eqb, ne_eqb, eqb-true, eqb-false, ltb-true, ltb-false}
 use lib.Dec.{eqb, ltb}
 use lib.ListN.{length, get_or, set, get_or-eq_default}
 use lib.Seq.{get_or-set_same, get_or-set_other, set_out}
-use Rattle.common.proofs.Tests.{true_or_false, not_true}
+use Rattle.common.proofs.Tests.{either, not_true}
 use Rattle.tables.specs.declared.BookMut.{BookMut}
 use Rattle.tables.specs.Ledger.{SameLoans, bank_of, added}
 
@@ -41,15 +41,13 @@ module _ (creditors : List ℕ) (number : ℕ) where
 module _ (creditors : List ℕ) (i bank : ℕ) (b : bank ≢ 0) where
   entry_set : (j : ℕ) → get_or creditors j 0 ≢ 0 → get_or (set creditors i bank) j 0 ≢ 0
   entry_set j ne =
-      ⊎_elim
+      either (eqb j i)
       (λ q.
       let p = eqb-true j i q in
-      ⊎_elim
+      either (ltb i (length creditors))
       (λ h e. b (sym (get_or-set_same creditors i bank 0 (ltb-true i (length creditors) h)) ∙ rw p at e))
-      (λ h e. ne (rw (set_out creditors i bank (ltb-false i (length creditors) h)) at e))
-      (true_or_false (ltb i (length creditors))))
+      (λ h e. ne (rw (set_out creditors i bank (ltb-false i (length creditors) h)) at e)))
       (λ q e. ne (sym (get_or-set_other creditors i j bank 0 (eqb-false j i q)) ∙ e))
-      (true_or_false (eqb j i))
 
   pub added_set : (number : ℕ) → added creditors number ≡ true → added (set creditors i bank) number ≡ true
   added_set number e =

@@ -1,23 +1,22 @@
 -- Laws of specs/Lookup: a row that is found is the lowest used one of its number, rows passed over, and what a written row
 -- does to a lookup.
--- To cite: `Lowest` with `lookup_at` and `lookup_made`, `lookup_used`, `lookup_lent`, `lookup_nothing`, `lookup_none`, `lookup_since_lem`, `lookup_put_kept`,
+-- To cite: `Lowest` with `lookup_at`, `lookup_used`, `lookup_lent`, `lookup_none`, `lookup_since_lem`, `lookup_put_kept`,
 -- `lookup_put_next`, `Grown` with `grown_same`, `grown_put_kept` and `grown_put_next`, `mandate_at_number`, `collection_at_number`. Assumes nothing.
 use Rattle.std.proofs.Common.{None, Option, Some, ℕ}
 use mathlib.Core.Path.{◌≡◌, refl, sym, ◌∙◌, ap}
 use mathlib.Core.Bool.{Bool, false, cond, ◌||◌}
 use mathlib.Core.List.{List, [], ◌∷◌}
-use mathlib.Core.Logic.{◌≢◌, ⊎_elim}
+use mathlib.Core.Logic.{◌≢◌}
 use Prim.Native.Nat.{ℕ, zero, suc, ◌+◌, ◌-◌, ◌*◌, ◌≤◌, ◌<◌}
-use native.Mathlib.Nat.{add-zero}
+use native.Mathlib.Nat.{add-zero, sub-zero}
 use native.Mathlib.Numerals.{add-one}
 use native.Mathlib.Omega.{arith}
 use borrow.Author.Tests.{ltb-true, ltb-false, eqb-true, eqb-false}
 use lib.Dec.{eqb, ltb}
 use lib.ListN.{length, get_or}
-use Rattle.common.specs.Tests.{any_of}
 use Rattle.common.specs.Walk.{first_from}
-use Rattle.common.proofs.Tests.{true_or_false, any_of_at}
-use Rattle.common.proofs.Walk.{all_left, first_from_miss, first_from_cases, first_from_more, first_from_same, first_from_through}
+use Rattle.common.proofs.Tests.{either, any_of_at}
+use Rattle.common.proofs.Walk.{first_from_miss, first_from_cases, first_from_more, first_from_same, first_from_through}
 use Rattle.tables.specs.Limits.{stride}
 use Rattle.tables.specs.Records.{mandate_from, collection_from}
 use Rattle.tables.specs.Rows.{rows, put_row, mandate_at, collection_at}
@@ -30,10 +29,9 @@ module _ (cells : List ℕ) (used : ℕ) where
   existing_cases :
       (P : ℕ → Type 0) → (used < rows cells → P used) → (rows cells ≤ used → P (rows cells)) → P (existing cells used)
   existing_cases P low high =
-      ⊎_elim
+      either (ltb used (rows cells))
       (λ e. rw e (low (ltb-true used (rows cells) e)))
       (λ e. rw e (high (ltb-false used (rows cells) e)))
-      (true_or_false (ltb used (rows cells)))
 
   pub existing_used : existing cells used ≤ used
   existing_used = existing_cases (λ (n : ℕ). n ≤ used) (λ h. omega arith) (λ h. h)
@@ -86,7 +84,7 @@ module _ (cells : List ℕ) (used number : ℕ) where
   lookup_at row =
       lookup_cases (λ (f : Option ℕ). f ≡ Some row → Lowest cells used number row)
       (λ k low e. let s : k ≡ row = cc in rw (← s) low)
-      (λ none e. let z : ◌≡◌ {A = ℕ} 0 1 = cc in absurd (omega arith))
+      (λ none e. absurd cc)
 
   -- a row that is found is a used one, and lent
   pub lookup_used : (row : ℕ) → lookup cells used number ≡ Some row → row < used
@@ -94,30 +92,6 @@ module _ (cells : List ℕ) (used number : ℕ) where
 
   pub lookup_lent : (row : ℕ) → lookup cells used number ≡ Some row → row < rows cells
   lookup_lent row e = omega (arith, (lookup_at row e).existing_row, existing_rows cells used)
-
-  pub lookup_nothing : lookup cells used number ≡ None → (j : ℕ) → j < existing cells used → number_at cells j ≢ number
-  lookup_nothing =
-      lookup_cases
-      (λ (f : Option ℕ). f ≡ None → (j : ℕ) → j < existing cells used → number_at cells j ≢ number)
-      (λ k low e. let z : ◌≡◌ {A = ℕ} 0 1 = cc in absurd (omega arith))
-      (λ none e. none)
-
-  pub lookup_made : (row : ℕ) → Lowest cells used number row → lookup cells used number ≡ Some row
-  lookup_made row r =
-      lookup_cases (λ (f : Option ℕ). f ≡ Some row)
-      (λ k low. ap Some (one_row k low))
-      (λ none. absurd (none row r.existing_row r.number_row))
-    where
-      one_row : (k : ℕ) → Lowest cells used number k → k ≡ row
-      one_row k low =
-          ⊎_elim
-          (λ e. absurd (r.none_below k (ltb-true k row e) low.number_row))
-          (λ e.
-          ⊎_elim
-          (λ b. absurd (low.none_below row (ltb-true row k b) r.number_row))
-          (λ b. omega (arith, ltb-false k row e, ltb-false row k b))
-          (true_or_false (ltb row k)))
-          (true_or_false (ltb k row))
 
   pub lookup_none : ((j : ℕ) → j < existing cells used → number_at cells j ≢ number) → lookup cells used number ≡ None
   lookup_none none =
@@ -129,20 +103,8 @@ module _ (cells : List ℕ) (used number : ℕ) where
 -- ---- rows passed over
 
 module _ (cells : List ℕ) (number : ℕ) where
-  -- the tests of the four rows from a row on, by their cells
-  abbrev pub four_tests : ℕ → List Bool
-  four_tests row =
-      eqb (get_or cells (row * stride) 0) number
-      ∷ eqb (get_or cells (row * stride + stride) 0) number
-      ∷ eqb (get_or cells (row * stride + 2 * stride) 0) number
-      ∷ eqb (get_or cells (row * stride + 3 * stride) 0) number
-      ∷ []
-
   abbrev four_rows : ℕ → List Bool
   four_rows row = number_is cells number row ∷ number_is cells number (row + 1) ∷ number_is cells number (row + 2) ∷ number_is cells number (row + 3) ∷ []
-
-  place : (row k : ℕ) → (row + k) * stride ≡ row * stride + k * stride
-  place row k = omega arith
 
   -- whether one of the four rows from a row on has the number
   abbrev four_have : ℕ → Bool
@@ -187,7 +149,7 @@ module _ (cells : List ℕ) (used number : ℕ) where
 
   pub lookup_since_first : MayStart cells used number 0
   unfolding lookup_since lookup
-  lookup_since_first = rw (all_left (existing cells used))
+  lookup_since_first = rw (sub-zero (existing cells used))
 
   -- no row before it has the number: the lookup may begin there
   pub lookup_since_lem : (since : ℕ) → since ≤ existing cells used → ((j : ℕ) → j < since → number_is cells number j ≡ false) → MayStart cells used number since
@@ -196,7 +158,7 @@ module _ (cells : List ℕ) (used number : ℕ) where
       let z : 0 + since ≡ since = omega arith in
       let a : (k : ℕ) → 0 + k ≡ k = λ k. omega arith in
       sym (rw z at (walk_past cells number 0 (existing cells used) since (omega arith) (λ k l. rw (a k) (none k l))))
-      ∙ rw (all_left (existing cells used)) (lookup_walk cells used number (existing cells used) refl)
+      ∙ rw (sub-zero (existing cells used)) (lookup_walk cells used number (existing cells used) refl)
 
 -- ---- a row's number in its record
 
@@ -239,10 +201,9 @@ module _ (cells : List ℕ) (row : ℕ) (fields : List ℕ) (e : length fields �
       row < rows cells → get_or fields 0 0 ≡ number_at cells row → (j : ℕ)
       → number_at (put_row stride cells row fields) j ≡ number_at cells j
   number_at_put_kept h s j =
-      ⊎_elim
+      either (eqb j row)
       (λ q. let p = eqb-true j row q in rw p (number_at_put_same h ∙ s))
       (λ q. number_at_put_other j (eqb-false j row q))
-      (true_or_false (eqb j row))
 
   -- a row that keeps its number: every lookup stays
   pub lookup_put_kept :

@@ -1,5 +1,5 @@
 -- Laws of specs/Records: what is read from a record's cells is the record, whatever its fields hold.
--- To cite: `mandateOf-cells`, `collectionOf-cells`. Assumes nothing.
+-- To cite: `mandate_from_cells`, `collection_from_cells`. Assumes nothing.
 use mathlib.Core.Path.{◌≡◌, refl}
 use mathlib.Core.Bool.{Bool, true, false}
 use Rattle.tables.specs.declared.Mandate.{Mandate}

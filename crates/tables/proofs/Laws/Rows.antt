@@ -5,19 +5,18 @@
 -- Assumes nothing.
 use mathlib.Core.Path.{◌≡◌, refl, sym, ◌∙◌, ap}
 use mathlib.Core.List.{List, [], ◌∷◌}
-use mathlib.Core.Logic.{◌≢◌, ⊎_elim}
+use mathlib.Core.Logic.{◌≢◌}
 use Prim.Native.Nat.{ℕ, zero, suc, ◌+◌, ◌-◌, ◌*◌, ◌/◌, ◌≤◌, ◌<◌}
 use native.Mathlib.Nat.{add-zero, suc-mul, mul-le-mul_right, le-div_iff_mul-le}
-use native.Mathlib.Numerals.{add-one}
 use native.Mathlib.Omega.{arith}
 use borrow.Author.Tests.{ltb-true, ltb-false, lt-ltb, le-ltb}
 use lib.Dec.{ltb}
-use lib.ListN.{length, get_or, set, take, drop, length-set, length-take, length-drop, drop_of_length-le}
-use lib.Seq.{sets, length-sets, get_or-set_same, get_or-set_other, get_or-take, get_or-drop, drop-cons, ext_get_or}
+use lib.ListN.{length, get_or, set, take, drop, length-set, length-take, length-drop}
+use lib.Seq.{sets, length-sets, get_or-set_same, get_or-set_other, ext_get_or}
 use borrow.Rule.Slice.PartMut.{put_mid, Post-is}
 use Rattle.std.proofs.Common.{append_assoc, ◌++◌}
 use Rattle.std.proofs.lemmas.List.Edits.{sets-eq}
-use Rattle.common.proofs.Tests.{true_or_false}
+use Rattle.common.proofs.Tests.{either}
 use Rattle.tables.specs.declared.Mandate.{Mandate}
 use Rattle.tables.specs.declared.Collection.{Collection}
 use Rattle.tables.specs.Limits.{stride}
@@ -117,10 +116,9 @@ module _ (w : ℕ) (cells : List ℕ) (row : ℕ) (fields : List ℕ) where
       (P : List ℕ → Type 0) → (row < rows_of w cells → P (sets cells (row * w) fields)) → P cells
       → P (put_row w cells row fields)
   by_place P written kept =
-      ⊎_elim
+      either (ltb row (rows_of w cells))
       (λ e. let h = ltb-true row (rows_of w cells) e in rw (put_there h) (written h))
       (λ e. rw (put_nowhere (ltb-false row (rows_of w cells) e)) kept)
-      (true_or_false (ltb row (rows_of w cells)))
 
   pub length_put : length (put_row w cells row fields) ≡ length cells
   length_put = by_place (λ (l : List ℕ). length l ≡ length cells) (λ h. length-sets cells (row * w) fields) refl
@@ -158,12 +156,11 @@ module _ (w : ℕ) (cells : List ℕ) (row : ℕ) (fields : List ℕ) where
       length fields ≡ w → (other k : ℕ) → other ≢ row → k < w
       → get_or (put_row w cells row fields) (other * w + k) 0 ≡ get_or cells (other * w + k) 0
   cell_put_other e other k ne l =
-      ⊎_elim
+      either (ltb other row)
       (λ b. cell_put_before (other * w + k) (omega (arith, row_before w other row (ltb-true other row b))))
       (λ b.
       let after : row < other = omega (arith, ltb-false other row b, ne) in
       cell_put_after e (other * w + k) (omega (arith, row_before w row other after)))
-      (true_or_false (ltb other row))
 
   -- the row reads as the fields, whatever they are
   pub row_at_put_same : length fields ≡ w → 0 < w → row < rows_of w cells → row_at w (put_row w cells row fields) row ≡ fields

@@ -1,45 +1,44 @@
 -- Events 6 to 10 on a fit ledger: what fitness gives, and that the call is then the model's answer and effect.
--- To cite: `treat_ruled`, `Asked`, `in_time_days`. Assumes nothing.
+-- To cite: `treat_ruled`, `Asked`. Assumes nothing.
 use Rattle.std.proofs.Common.{Err, None, Ok, Option, Result, Some, ℕ}
 use mathlib.Core.Path.{◌≡◌, refl, sym, ◌∙◌, ap}
-use mathlib.Core.Bool.{Bool, true, false, not}
+use mathlib.Core.Bool.{true, false}
 use mathlib.Core.List.{List}
-use Prim.Native.Nat.{ℕ, zero, suc, ◌+◌, ◌≤◌, ◌<◌}
+use Prim.Native.Nat.{ℕ, ◌≤◌, ◌<◌}
 use native.Mathlib.Omega.{arith}
-use borrow.Author.Tests.{leb-true, ltb-true, ltb-false, lt-ltb}
-use lib.Dec.{eqb, ltb}
+use borrow.Author.Tests.{leb-true, lt-ltb}
 use lib.IntN.{ℤ, pos, nat_abs}
-use lib.ListN.{length, get_or, get_or-eq_default}
-use Rattle.common.proofs.Tests.{never, not_true}
+use lib.ListN.{length, get_or}
+use Rattle.common.proofs.Tests.{never}
 use Rattle.calendar.specs.Gregorian.{in_range, is_date}
 use Rattle.calendar.specs.DayNumber.{day_number}
-use Rattle.calendar.specs.Periods.{days_between, is_after}
+use Rattle.calendar.specs.Periods.{days_between}
 use Rattle.calendar.proofs.Laws.Gregorian.{range_facts}
 use Rattle.calendar.proofs.Laws.DayNumber.{day_number_mono_le}
 use Rattle.calendar.proofs.Laws.Answers.{day_of_is}
 use Rattle.calendar.proofs.Laws.Periods.{days_between_days}
-use Rattle.calendar.proofs.Laws.PeriodEnds.{longest, range_period_end}
-use Rattle.positions.specs.Positions.{position_limit, position}
-use Rattle.positions.specs.Postings.{settlement, reversed, refunded}
+use Rattle.positions.specs.Positions.{position_limit, position, InLimit}
+use Rattle.positions.specs.Postings.{settlement}
 use Rattle.positions.specs.Compensation.{compensation, compensation_of, rate_limit, InLimits}
 use Rattle.positions.specs.declared.Postings.{Postings}
 use Rattle.positions.proofs.Laws.Compensation.{compensation_of_is}
 use Rattle.positions.proofs.Laws.Integers.{size_within}
-use Rattle.positions.proofs.Laws.Limits.{refund_days, compensation_bound}
+use Rattle.positions.proofs.Laws.Limits.{compensation_bound}
 use Rattle.positions.proofs.Laws.Positions.{entry_has_entry}
 use Rattle.positions.proofs.Laws.Postings.{AtMost, settlement_size, reversed_size, refunded_size}
 use Rattle.positions.proofs.Laws.Answers.{settlement_of_is, reversed_of_is, refunded_of_is}
 use Rattle.tables.specs.declared.Collection.{Collection}
 use Rattle.tables.specs.declared.State.{State}
-use Rattle.tables.specs.declared.State.TheVariants.{Presented, Rejected, Settled, Undone}
 use Rattle.tables.specs.Limits.{creditor_count, debtor_count, bank_count, amount_limit}
 use Rattle.tables.specs.Ledger.{Ledger}
 use Rattle.tables.specs.Lookup.{existing, lookup}
 use Rattle.tables.specs.Rows.{collection_at}
 use Rattle.tables.specs.Records.{state_tag, state_day}
-use Rattle.tables.proofs.Laws.Lookup.{lookup_at, existing_used}
+use Rattle.tables.proofs.Laws.Lookup.{lookup_at, lookup_used}
 use Rattle.fitness.specs.Fitness.{day_fit, positions_fit, fit}
-use Rattle.fitness.proofs.Laws.Fitness.{position_facts, compensation_facts, day_facts, CollectionFit, creditors_fit_at, positions_fit_at, fit_facts, fit_collection}
+use Rattle.model.proofs.Laws.Accepted.{is_settled_lem}
+use Rattle.model.proofs.Laws.Bounds.{days_in_time, larger_sizes, entries_within}
+use Rattle.fitness.proofs.Laws.Fitness.{Within, position_facts, compensation_facts, day_facts, CollectionFit, creditors_fit_at, positions_fit_at, fit_facts, fit_collection}
 use Rattle.model.specs.declared.Action.TheVariants.{Treat}
 use Rattle.model.specs.declared.Way.{Way}
 use Rattle.model.specs.declared.Treatment.{Treatment}
@@ -47,7 +46,7 @@ use Rattle.model.specs.declared.Way.TheVariants.{ByReturn, ByRefund, ByReversal}
 use Rattle.model.specs.declared.Treatment.TheVariants.{Settle, Reject, Undo}
 use Rattle.model.specs.Lookups.{collection_of}
 use Rattle.model.specs.Checks.{is_settled, settled_on, state_fits, time_treated, ruled}
-use Rattle.model.specs.Deadlines.{core, period_of, last_day, in_time, days_since}
+use Rattle.model.specs.Deadlines.{in_time, days_since}
 use Rattle.model.specs.Effects.{treated, undone, effect}
 use Rattle.checking.specs.Calls.{used_row, found_row, Done}
 use Rattle.checking.proofs.Laws.Calls.{done_same, judged_passes}
@@ -92,120 +91,48 @@ undone_is ByReversal amount settled date r = reversed_of_is amount r.limits.high
 
 -- ---- an undoing in time is within its limits
 
-longest_in_time : (way : Way) → longest (period_of core way) ≤ refund_days
-unfolding longest
-longest_in_time ByReturn = omega arith
-longest_in_time (ByRefund rate code) = by_code (eqb code 0) refl
-  where
-    by_code : (b : Bool) → eqb code 0 ≡ b → longest (period_of core (ByRefund rate code)) ≤ refund_days
-    by_code true e = rw e (omega arith)
-    by_code false e = rw e (omega arith)
-longest_in_time ByReversal = omega arith
-
--- an undoing in time comes at most so many days after the settled day
-pub in_time_days :
-    (way : Way) (day date : ℕ) → in_range day ≡ true → is_date date ≡ true → in_time way day date ≡ true
-    → days_since day date ≤ refund_days
-unfolding last_day
-in_time_days way day date r h e =
-    let a = range_period_end (period_of core way) day r (omega (arith, longest_in_time way)) in
-    let f : not (is_after date (Some a.date)) ≡ true = rw a.is at e in
-    let l : date ≤ a.date = ltb-false a.date date (not_true f) in
-    omega (arith, longest_in_time way, a.near, day_number_mono_le date a.date h a.is_date_lem l)
-
 refundable :
-    (way : Way) (date amount : ℕ) (s : State) → 1 ≤ amount → amount ≤ amount_limit → rate_of way ≤ rate_limit
-    → in_range date ≡ true
-    → ((day : ℕ) → s ≡ Settled day → (in_range day ≡ true) × (day ≤ date))
+    (way : Way) (latest date amount : ℕ) (s : State) → Within 1 amount_limit amount → rate_of way ≤ rate_limit
+    → in_range date ≡ true → latest ≤ date → day_fit latest (state_tag s) (state_day s) ≡ true
     → is_settled s ≡ true → in_time way (settled_on s) date ≡ true
     → Refundable amount (rate_of way) (settled_on s) date
-refundable way date amount Presented low high rated r d e g = absurd (never e refl)
-refundable way date amount Rejected low high rated r d e g = absurd (never e refl)
-refundable way date amount (Settled day) low high rated r d e g =
-    let f = d day refl in
-    let is-day = (range_facts date r).is_date_lem in
-    record {
-      from = (range_facts day f.0).is_date_lem;
-      to = is-day;
-      order = f.1;
-      limits = record { low = low; high = high; rated = rated; dated = omega (arith, in_time_days way day date f.0 is-day g) };
-    }
-refundable way date amount (Undone day by) low high rated r d e g = absurd (never e refl)
+refundable way latest date amount s a rated r h f e g =
+    let i = is_settled_lem s e in
+    let d = day_facts latest i.day (rw i.is at f) in
+    rw i.is
+    (record {
+      from = (range_facts i.day d.date).is_date_lem;
+      to = (range_facts date r).is_date_lem;
+      order = omega (arith, d.to);
+      limits = record { low = a.from; high = a.to; rated = rated; dated = omega (arith, days_in_time way i.day date d.date r (rw i.is at g)) };
+    })
 
 -- ---- how large the amounts are
-
-at_most_mono : (m n : ℕ) (p : Postings) → m ≤ n → AtMost m p → AtMost n p
-at_most_mono m n p h a = record {
-  debtor = omega (arith, a.debtor);
-  creditor = omega (arith, a.creditor);
-  dbank = omega (arith, a.dbank);
-  cbank = omega (arith, a.cbank);
-  compensation = omega (arith, a.compensation);
-}
 
 undone_size :
     (way : Way) (amount settled date : ℕ) → Refundable amount (rate_of way) settled date
     → AtMost position_limit (undone way amount settled date)
 undone_size ByReturn amount settled date r =
-    at_most_mono amount position_limit (reversed amount) (omega (arith, r.limits.high)) (reversed_size amount)
+    larger_sizes (omega (arith, r.limits.high)) (reversed_size amount)
 undone_size (ByRefund rate code) amount settled date r =
     let k = compensation amount rate (days_since settled date) in
     let h = compensation_bound amount rate (days_since settled date) r.limits.high r.limits.rated r.limits.dated in
-    at_most_mono (amount + k) position_limit (refunded amount k) (omega (arith, h, r.limits.high)) (refunded_size amount k)
+    larger_sizes (omega (arith, h, r.limits.high)) (refunded_size amount k)
 undone_size ByReversal amount settled date r =
-    at_most_mono amount position_limit (reversed amount) (omega (arith, r.limits.high)) (reversed_size amount)
+    larger_sizes (omega (arith, r.limits.high)) (reversed_size amount)
 
--- ---- what fitness gives: the numbers of a collection, and the tables
-
--- the numbers of a fit collection, and its settled day
-record Treatable (latest : ℕ) (k : Collection) : Type 0 where
-  creditor : (1 ≤ k.creditor) × (k.creditor ≤ creditor_count)
-  debtor : (1 ≤ k.debtor) × (k.debtor ≤ debtor_count)
-  cbank : (1 ≤ k.cbank) × (k.cbank ≤ bank_count)
-  dbank : (1 ≤ k.dbank) × (k.dbank ≤ bank_count)
-  amount : (1 ≤ k.amount) × (k.amount ≤ amount_limit)
-  settled : (day : ℕ) → k.state ≡ Settled day → (in_range day ≡ true) × (day ≤ latest)
-
--- the settled day of a state that fits
-settled_day :
-    (latest day : ℕ) (s : State) → day_fit latest (state_tag s) (state_day s) ≡ true → s ≡ Settled day
-    → (in_range day ≡ true) × (day ≤ latest)
-settled_day latest day Presented e q = let z : ◌≡◌ {A = ℕ} 0 1 = cc in absurd (omega arith)
-settled_day latest day Rejected e q = let z : ◌≡◌ {A = ℕ} 0 1 = cc in absurd (omega arith)
-settled_day latest day (Settled x) e q =
-    let p : x ≡ day = cc in
-    let f = day_facts latest x e in
-    rw (← p) (f.date, f.to)
-settled_day latest day (Undone x by) e q = let z : ◌≡◌ {A = ℕ} 0 1 = cc in absurd (omega arith)
-
-fit_treatable : (latest : ℕ) (creditors : List ℕ) (k : Collection) → CollectionFit latest creditors k → Treatable latest k
-fit_treatable latest creditors k f = record {
-  creditor = (f.creditor_fit_lem.from, f.creditor_fit_lem.to);
-  debtor = (f.debtor_fit.from, f.debtor_fit.to);
-  cbank = (f.cbank_fit.from, f.cbank_fit.to);
-  dbank = (f.dbank_fit.from, f.dbank_fit.to);
-  amount = (f.amount_fit.from, f.amount_fit.to);
-  settled = λ day s. settled_day latest day k.state f.state_fit s;
-}
+-- ---- what fitness gives of the tables
 
 -- a table of positions of some parties, each within the limit
 record Table (count : ℕ) (positions : List ℤ) : Type 0 where
   size : length positions ≡ count
-  bounded : (k : ℕ) → nat_abs (position positions k) ≤ position_limit
+  bounded : InLimit position_limit positions
 
 in_table : (count : ℕ) (positions : List ℤ) → length positions ≡ count
     → ((i : ℕ) → i < count → nat_abs (get_or positions i (pos 0)) ≤ position_limit)
     → Table count positions
-unfolding position
-in_table count positions size f = record { size = size; bounded = bounded }
-  where
-    by_place : (i : ℕ) (b : Bool) → ltb i (length positions) ≡ b → nat_abs (get_or positions i (pos 0)) ≤ position_limit
-    by_place i true e = f i (omega (arith, ltb-true i (length positions) e))
-    by_place i false e = rw (get_or-eq_default positions (pos 0) (ltb-false i (length positions) e)) (omega arith)
-
-    bounded : (k : ℕ) → nat_abs (position positions k) ≤ position_limit
-    bounded zero = omega arith
-    bounded (suc i) = by_place i (ltb i (length positions)) refl
+in_table count positions size f =
+    record { size = size; bounded = entries_within position_limit positions (λ i h. f i (omega (arith, size))) }
 
 fit_table :
     (count : ℕ) (positions : List ℤ) → length positions ≡ count → positions_fit positions ≡ true → Table count positions
@@ -214,11 +141,11 @@ fit_table count positions size e =
     (λ i h. position_facts (get_or positions i (pos 0)) (positions_fit_at positions e i (omega (arith, size))))
 
 table_held :
-    (count number : ℕ) (positions : List ℤ) (x : ℤ) → Table count positions → (1 ≤ number) × (number ≤ count) → nat_abs x ≤ position_limit
+    (count number : ℕ) (positions : List ℤ) (x : ℤ) → Table count positions → Within 1 count number → nat_abs x ≤ position_limit
     → held positions number x ≡ true
 table_held count number positions x h n s =
     rw (
-      entry_has_entry positions number (record { low = n.0; high = omega (arith, h.size, n.1) }),
+      entry_has_entry positions number (record { low = n.from; high = omega (arith, h.size, n.to) }),
       size_within position_limit (position positions number) (h.bounded number),
       size_within position_limit x s,
     )
@@ -232,7 +159,7 @@ module _ (l : Ledger) (f : fit l ≡ true) where
       (creditors_fit_at l.creditors l.creditor_positions m.creditors i (omega (arith, m.sizes.creditor_table))).position_fit_lem)
 
   fit_postable :
-      (t : Treatment) (date : ℕ) (k : Collection) (p : Postings) → Treatable date k → AtMost position_limit p
+      (t : Treatment) (date : ℕ) (k : Collection) (p : Postings) → CollectionFit l.latest l.creditors k → AtMost position_limit p
       → postable (treated t date k) p l.compensation l.creditor_positions l.debtor_positions l.bank_positions ≡ true
   unfolding postable treated
   fit_postable t date k p g a =
@@ -240,10 +167,10 @@ module _ (l : Ledger) (f : fit l ≡ true) where
       let debtors = fit_table debtor_count l.debtor_positions m.sizes.debtor_positions_lem m.debtors in
       let banks = fit_table bank_count l.bank_positions m.sizes.bank_positions_lem m.banks in
       rw (
-        table_held creditor_count k.creditor l.creditor_positions p.creditor creditor_table g.creditor a.creditor,
-        table_held debtor_count k.debtor l.debtor_positions p.debtor debtors g.debtor a.debtor,
-        table_held bank_count k.dbank l.bank_positions p.dbank banks g.dbank a.dbank,
-        table_held bank_count k.cbank l.bank_positions p.cbank banks g.cbank a.cbank,
+        table_held creditor_count k.creditor l.creditor_positions p.creditor creditor_table g.creditor_fit_lem a.creditor,
+        table_held debtor_count k.debtor l.debtor_positions p.debtor debtors g.debtor_fit a.debtor,
+        table_held bank_count k.dbank l.bank_positions p.dbank banks g.dbank_fit a.dbank,
+        table_held bank_count k.cbank l.bank_positions p.cbank banks g.cbank_fit a.cbank,
         size_within position_limit l.compensation (compensation_facts l.compensation m.header.cents).to,
         size_within position_limit p.compensation a.compensation,
       )
@@ -284,35 +211,23 @@ module _ (l : Ledger) (date number row : ℕ) (e : lookup l.collections l.collec
   k = collection_at l.collections row
 
   module _ (f : fit l ≡ true) (h : l.latest ≤ date) where
-    treatable : Treatable date k
+    fits : CollectionFit l.latest l.creditors k
     unfolding k
-    treatable =
-        let low = lookup_at l.collections l.collections_used number row e in
-        let r = fit_collection l f row (omega (arith, low.existing_row, existing_used l.collections l.collections_used)) in
-        let g = fit_treatable l.latest l.creditors (collection_at l.collections row) r in
-        record {
-          creditor = g.creditor;
-          debtor = g.debtor;
-          cbank = g.cbank;
-          dbank = g.dbank;
-          amount = g.amount;
-          settled = λ day s. ((g.settled day s).0, omega (arith, (g.settled day s).1));
-        }
+    fits = fit_collection l f row (lookup_used l.collections l.collections_used number row e)
 
     goes : (t : Treatment) → Asked t date → state_fits t k.state ≡ true → time_treated t k.state date ≡ true → Goes l date row t k (effect l date (Treat number t))
     unfolding effect treated k
     goes Settle a s d =
-        let g = treatable in
-        let p = settlement_of_is k.amount g.amount.1 in
-        let m = at_most_mono k.amount position_limit (settlement k.amount) (omega (arith, g.amount.1)) (settlement_size k.amount) in
-        record { accepted = rw (p, fit_postable l f Settle date k (settlement k.amount) g m); makes = rw (p, e) }
+        let high = fits.amount_fit.to in
+        let p = settlement_of_is k.amount high in
+        let m : AtMost position_limit (settlement k.amount) = larger_sizes (omega (arith, high)) (settlement_size k.amount) in
+        record { accepted = rw (p, fit_postable l f Settle date k (settlement k.amount) fits m); makes = rw (p, e) }
     goes Reject a s d = record { accepted = refl; makes = rw e }
     goes (Undo way) a s d =
-        let g = treatable in
-        let r = refundable way date k.amount k.state g.amount.0 g.amount.1 (a.rated way refl) a.in_range_lem g.settled s d in
+        let r = refundable way l.latest date k.amount k.state fits.amount_fit (a.rated way refl) a.in_range_lem h fits.state_fit s d in
         let p = undone_is way k.amount (settled_on k.state) date r in
         let m = undone_size way k.amount (settled_on k.state) date r in
-        record { accepted = rw (p, fit_postable l f (Undo way) date k (undone way k.amount (settled_on k.state) date) g m); makes = rw (p, e) }
+        record { accepted = rw (p, fit_postable l f (Undo way) date k (undone way k.amount (settled_on k.state) date) fits m); makes = rw (p, e) }
 
 module _ (l : Ledger) (date number : ℕ) (t : Treatment) (f : fit l ≡ true) (a : Asked t date) where
   by_found :

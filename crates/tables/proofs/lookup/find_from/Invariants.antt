@@ -7,6 +7,3 @@ use Rattle.tables.proofs.lookup.find_from.Given as goal
 
 abbrev pub invariant-loop-i : goal.invariant-loop-i
 invariant-loop-i l = first_from (number_is l.cells l.number) Some None l.i (l.n - l.i) ≡ first_from (number_is l.cells l.number) Some None l.from (l.n - l.from)
-
-abbrev pub decreases-loop-i : goal.decreases-loop-i
-decreases-loop-i l = l.n - l.i

@@ -1,16 +1,10 @@
 -- `tables::lookup::skip` meets its contract. The loop: the walk from the turn's row on has the answer of the walk from the first row
 -- on. Assumes nothing.
-use Rattle.std.proofs.Common.{◌≡◌, ℕ, ◌+◌, ◌*◌, ◌-◌, Option, None, Some, arith, refl, sym, ap, ◌∙◌}
+use Rattle.std.proofs.Common.{◌≡◌, ℕ, ◌+◌, ◌*◌, ◌-◌, None, Some, arith, sym, ap, ◌∙◌}
 use Rattle.common.specs.Walk.{first_from}
 use Rattle.tables.specs.Lookup.{number_is}
 use Rattle.tables.proofs.Laws.Lookup.{four_miss, walk_past_eight}
 use Rattle.tables.proofs.lookup.skip.Goals as goal
-
-pub loop-turn-init : goal.loop-turn-init
-loop-turn-init c =
-    let a = c.args in
-    let here : a.from + 8 * 0 ≡ a.from = omega arith in
-    ap (λ (row : ℕ). first_from (number_is a.cells.now a.number) Some None row (a.n - row)) here
 
 pub loop-turn-preserved : goal.loop-turn-preserved
 loop-turn-preserved c =
