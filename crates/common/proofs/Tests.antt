@@ -1,51 +1,46 @@
--- Laws of specs/Tests. Names: F-at reads one test out of F; F-true and F-false make F of its tests.
--- Assumes nothing.
+-- Laws of specs/Tests. Names: F-at reads one test out of F; F-true and F-false make F of its tests. Of one test and of two the laws
+-- are std's: under other names, or without the tests that the facts name. Assumes nothing.
 use mathlib.Core.Path.{◌≡◌, refl}
-use mathlib.Core.Bool.{Bool, true, false, not, ◌&&◌, ◌||◌}
+use mathlib.Core.Bool.{Bool, true, false, cond, not, ◌&&◌, ◌||◌}
 use mathlib.Core.List.{List, [], ◌∷◌}
-use mathlib.Core.Logic.{◌⊎◌, inl, inr, ⊎_elim}
+use mathlib.Core.Logic.{◌⊎◌, ⊎_elim}
 use Prim.Native.Nat.{ℕ, zero, suc}
-use native.Mathlib.Omega.{arith}
 use lib.ListN.{get_or}
+use Rattle.std.proofs.lemmas.Bool.{both_ways, not-true, not-false, and_parts, and_from, or_cases as or_ways, or_parts}
+pub use Rattle.std.proofs.lemmas.Bool.{true_from_ne_false as true_unless, false_from_ne_true as false_unless}
 use Rattle.common.specs.Tests.{and_all, all_of, or_any, any_of}
 
 -- ---- one test
 
+-- what each way that a test can go gives
+pub either : {P : Type 0} (b : Bool) → (b ≡ true → P) → (b ≡ false → P) → P
+either true f g = f refl
+either false f g = g refl
+
 pub never : {b : Bool} → b ≡ true → b ≡ false → ⊥
-never p q = let z : ◌≡◌ {A = ℕ} 0 1 = cc in omega arith
-
-pub true_or_false : (b : Bool) → (b ≡ true) ⊎ (b ≡ false)
-true_or_false true = inl refl
-true_or_false false = inr refl
-
--- a test that cannot fail holds
-pub true_unless : (b : Bool) → (b ≡ false → ⊥) → b ≡ true
-true_unless true h = refl
-true_unless false h = absurd (h refl)
-
--- a test that cannot hold fails
-pub false_unless : (b : Bool) → (b ≡ true → ⊥) → b ≡ false
-false_unless true h = absurd (h refl)
-false_unless false h = refl
+never {b} p q = both_ways b q p
 
 pub not_true : {b : Bool} → not b ≡ true → b ≡ false
-not_true {b} e = false_unless b λ p. never e (rw p)
+not_true {b} e = not-true b e
 
 pub not_false : {b : Bool} → not b ≡ false → b ≡ true
-not_false {b} e = true_unless b λ p. never {b = not b} (rw p) e
+not_false {b} e = not-false b e
+
+-- whichever way it goes
+pub same_arms : {A : Type 0} (b : Bool) (a : A) → cond b a a ≡ a
+same_arms true a = refl
+same_arms false a = refl
 
 -- ---- two tests; the first is written out, since && and || compute
 
 pub and_halves : (a : Bool) {b : Bool} → a && b ≡ true → (a ≡ true) × (b ≡ true)
-and_halves true e = (refl, e)
-and_halves false e = (e, absurd (never e refl))
+and_halves a {b} e = and_parts a b e
 
 pub and_true : {a b : Bool} → a ≡ true → b ≡ true → a && b ≡ true
-and_true p q = rw (p, q)
+and_true {a} {b} p q = and_from a b p q
 
 pub or_cases : (a : Bool) {b : Bool} → a || b ≡ true → (a ≡ true) ⊎ (b ≡ true)
-or_cases true e = inl refl
-or_cases false e = inr e
+or_cases a {b} e = or_ways a b e
 
 -- ---- all_of
 
@@ -79,17 +74,13 @@ pub any_of_cases : (P : Type 0) (bs : List Bool) → Cases P bs → any_of bs �
 any_of_cases P [] fs e = absurd (never e refl)
 any_of_cases P (b ∷ bs) fs e = or_any_cases P b bs fs.0 fs.1 e
 
-or_none : (a : Bool) {b : Bool} → a || b ≡ false → (a ≡ false) × (b ≡ false)
-or_none true e = (e, absurd (never refl e))
-or_none false e = (refl, e)
-
 or_any_first : (a : Bool) (bs : List Bool) → or_any a bs ≡ false → a ≡ false
 or_any_first a [] e = e
-or_any_first a (b ∷ bs) e = (or_none a (or_any_first (a || b) bs e)).0
+or_any_first a (b ∷ bs) e = (or_parts a b (or_any_first (a || b) bs e)).0
 
 or_any_at : (a : Bool) (bs : List Bool) (k : ℕ) → or_any a bs ≡ false → get_or bs k false ≡ false
 or_any_at a [] k e = refl
-or_any_at a (b ∷ bs) zero e = (or_none a (or_any_first (a || b) bs e)).1
+or_any_at a (b ∷ bs) zero e = (or_parts a b (or_any_first (a || b) bs e)).1
 or_any_at a (b ∷ bs) (suc k) e = or_any_at (a || b) bs k e
 
 -- none of the tests holds

@@ -5,23 +5,17 @@ use mathlib.Core.Path.{◌≡◌, refl, subst}
 use mathlib.Core.Bool.{Bool, true, false, cond}
 use mathlib.Core.Logic.{⊎_elim}
 use Prim.Native.Nat.{ℕ, zero, suc, ◌+◌, ◌-◌, ◌≤◌, ◌<◌}
-use native.Mathlib.Nat.{add-zero, eq-or-lt_of_le}
+use native.Mathlib.Nat.{add-zero, eq-or-lt_of_le, sub-eq-zero_of_le}
 use native.Mathlib.Omega.{arith}
 use native.Mathlib.Numerals.{add-one}
 use Rattle.std.specs.Prelude.{◌&&◌, List, [], ◌∷◌}
 use Rattle.std.specs.List.{list_all, range_with_len, zip}
 use Rattle.std.proofs.Common.{get_or, length}
 use Rattle.common.specs.Walk.{all_from, first_from}
-use Rattle.common.proofs.Tests.{never, true_or_false}
+use Rattle.common.proofs.Tests.{never, either}
 
 pub one_more : (i n : ℕ) → i < n → n - i ≡ suc (n - (i + 1))
 one_more i n h = omega arith
-
-pub none_left : (i n : ℕ) → n ≤ i → n - i ≡ zero
-none_left i n h = omega arith
-
-pub all_left : (n : ℕ) → n - 0 ≡ n
-all_left n = omega arith
 
 -- ---- all_from
 
@@ -29,14 +23,13 @@ all_from_from : (t : ℕ → Bool) (i left k : ℕ) → all_from t i left ≡ tr
 unfolding all_from
 all_from_from t i zero k e lo hi = absurd (omega arith)
 all_from_from t i (suc left) k e lo hi =
-    ⊎_elim
+    either (t i)
     (λ q.
     ⊎_elim
     (λ s. rw (← s) q)
     (λ l. all_from_from t (i + 1) left k (rw q at e) (omega arith) (omega arith))
     (eq-or-lt_of_le lo))
     (λ q. absurd (never e (rw q)))
-    (true_or_false (t i))
 
 -- the test holds at each number of a walk that passed
 pub all_from_at : (t : ℕ → Bool) (n : ℕ) → all_from t 0 n ≡ true → (k : ℕ) → k < n → t k ≡ true
@@ -65,7 +58,7 @@ module _ {A : Type 0} (t : ℕ → Bool) (hit : ℕ → A) (miss : A) where
 
   pub first_from_end : (i n : ℕ) → n ≤ i → first_from t hit miss i (n - i) ≡ miss
   unfolding first_from
-  first_from_end i n h = rw (none_left i n h)
+  first_from_end i n h = rw (sub-eq-zero_of_le h)
 
   -- what holds of a hit at the first number from i on that passes, and of a miss where none passes, holds of the search
   pub cases_from :
@@ -75,7 +68,7 @@ module _ {A : Type 0} (t : ℕ → Bool) (hit : ℕ → A) (miss : A) where
   unfolding first_from
   cases_from P i zero found none = none (λ j lo hi. absurd (omega arith))
   cases_from P i (suc left) found none =
-      ⊎_elim
+      either (t i)
       (λ q. rw q (found i (omega arith) (omega arith) q (λ j lo hi. absurd (omega arith))))
       (λ q.
       let first : (j : ℕ) → i ≤ j → (i < j → t j ≡ false) → t j ≡ false = λ j lo f. ⊎_elim (λ s. rw (← s) q) f (eq-or-lt_of_le lo) in
@@ -83,7 +76,6 @@ module _ {A : Type 0} (t : ℕ → Bool) (hit : ℕ → A) (miss : A) where
       (cases_from P (i + 1) left
       (λ k lo hi e below. found k (omega arith) (omega arith) e (λ j lj hj. first j lj (λ l. below j (omega arith) hj)))
       (λ below. none (λ j lj hj. first j lj (λ l. below j (omega arith) (omega arith))))))
-      (true_or_false (t i))
 
   -- the same from 0 on
   pub first_from_cases :
@@ -127,7 +119,7 @@ pub first_from_through :
 unfolding first_from
 first_from_through f t hit miss i zero = refl
 first_from_through f t hit miss i (suc left) =
-    ⊎_elim (λ q. rw q) (λ q. rw q (first_from_through f t hit miss (i + 1) left)) (true_or_false (t i))
+    either (t i) (λ q. rw q) (λ q. rw q (first_from_through f t hit miss (i + 1) left))
 
 -- ---- a list tested from its first element on, as `all` of an iterator does
 

@@ -6,7 +6,6 @@ use Rattle.common.specs.Tests.{all_of}
 use Rattle.common.specs.Checks.{Check, check, judged}
 use Rattle.calendar.specs.Gregorian.{in_range}
 use Rattle.refusals.specs.declared.Refusal.{Refusal}
-use Rattle.refusals.specs.Refusals.{answer_number}
 use Rattle.refusals.specs.declared.Refusal.TheVariants.{UnknownKind, BadDate, BadField}
 use Rattle.events.specs.declared.Event.{Event}
 use Rattle.events.specs.declared.limits.Range.{Range}
@@ -145,11 +144,6 @@ limit_checks e =
 
 unfoldable pub checked : Event → Result Unit Refusal
 checked e = judged (limit_checks e) (Ok tt)
-
--- ---- the number of an answer: 0, or the refusal's
-
-abbrev pub checked_number : Result Unit Refusal → ℕ
-checked_number a = answer_number a
 
 -- the checking order in the paper's numbers: that of the first test that fails, or 0
 abbrev pub limit_numbers : Event → List (Check ℕ)

@@ -9,7 +9,8 @@ pub mod limits;
 // The fields of an event.
 pub const FIELDS: usize = 9;
 
-// An event by its nine fields. A field that the kind and code do not name is 0.
+// An event by its nine fields. A field that the kind and code do not name is 0. Kind and code are numbers, no enums: an event may be
+// given with any, and refusals 3 and 5 are about those that mean nothing.
 #[derive(Clone, Copy, Debug, PartialEq, Eq)]
 pub struct Event {
     pub kind: u64,

@@ -1,6 +1,7 @@
 // The limits of an event's fields: specs/Limits.
 ghost use Rattle.std.specs.Prelude.{◌≡◌, ◌&&◌, eqb, find};
-ghost use Rattle.events.specs.Limits.{within, row_of, second_fits, row_fits, fields_fit, checked, checked_number, limit_number};
+ghost use Rattle.refusals.specs.Refusals.{answer_number};
+ghost use Rattle.events.specs.Limits.{within, row_of, second_fits, row_fits, fields_fit, checked, limit_number};
 
 use crate::Event;
 use calendar::gregorian::in_range;
@@ -25,7 +26,7 @@ pub enum SecondDate {
     NotAfter,
 }
 
-// The limits of the events of one kind with one of some codes.
+// The limits of the events of one kind with one of some codes: numbers, since those of any event are held against them.
 #[derive(Clone, Copy, Debug, PartialEq, Eq)]
 pub struct Row {
     pub kind: u64,
@@ -246,7 +247,7 @@ fn fields_fit(e: Event) -> bool
 #[tactic(auto, unfolding(crate::specs::Limits::checked, crate::specs::Limits::limit_number))]
 pub fn check(e: Event) -> Result<(), Refusal>
     ensures answer { result ≡ checked e }
-    ensures number { checked_number result ≡ limit_number e }
+    ensures number { answer_number result ≡ limit_number e }
 {
     ensure(KINDS.contains(e.kind), Refusal::UnknownKind)?;
     ensure(in_range(e.date), Refusal::BadDate)?;

@@ -4,7 +4,6 @@
 use Rattle.std.specs.Prelude.{ℕ, ◌+◌, Bool, cond, ◌&&◌, List, [], ◌∷◌, ◌++◌, leb, eqb, length, take, drop, get_or, Option, Some, None, Result, Ok, Err}
 use Rattle.common.specs.Checks.{check, judged}
 use Rattle.refusals.specs.declared.Refusal.{Refusal}
-use Rattle.refusals.specs.Refusals.{number_of}
 use Rattle.refusals.specs.declared.Refusal.TheVariants.{BadLine, UnfitMemory}
 use Rattle.events.specs.declared.Event.{Event}
 pub use Rattle.events.specs.Fields.{fields_of, event_of}
@@ -101,17 +100,7 @@ bytes_by (Err r) e out = out
 unfoldable pub bytes_after : Event → List ℕ → List ℕ
 bytes_after e out = bytes_by (write_answer e out) e out
 
--- ---- the number of an answer: 0, or the refusal's
-
-abbrev pub line_number : Result Event Refusal → ℕ
-line_number (Ok e) = 0
-line_number (Err r) = number_of r
-
-abbrev pub write_number : Result Unit Refusal → ℕ
-write_number (Ok tt) = 0
-write_number (Err r) = number_of r
-
--- ---- the same in the paper's numbers
+-- ---- the answers in the paper's numbers
 
 -- 1 where a line or a field is not as it should be, then 3, 4 and 5
 abbrev pub fields_number : Fields → ℕ

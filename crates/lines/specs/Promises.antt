@@ -2,9 +2,10 @@
 -- Each statement is proved in proofs/Laws/Promises. Assumes nothing.
 use Rattle.std.specs.Prelude.{◌≡◌, true, List, [], ◌∷◌, ◌++◌, ℕ, ◌≤◌, length, take, drop, Ok}
 use Rattle.common.specs.Tests.{among}
+use Rattle.refusals.specs.Refusals.{answer_number}
 use Rattle.events.specs.declared.Event.{Event}
 use Rattle.events.specs.Limits.{checked}
-use Rattle.lines.specs.Line.{line_length, line_of, read_line, write_answer, bytes_after, line_number, write_number}
+use Rattle.lines.specs.Line.{line_length, line_of, read_line, write_answer, bytes_after}
 
 -- the line of an event is as long as every line
 abbrev pub LineHasItsLength : Type 0
@@ -44,7 +45,7 @@ NoLineHasTwoEvents = (e f : Event) → checked e ≡ (Ok tt) → checked f ≡ (
 
 -- document 01: "the reader gives 1, 3, 4, 5; the line writer 2, 3, 4, 5"; 0 is taken or written
 abbrev pub ReaderAnswers : Type 0
-ReaderAnswers = (l : List ℕ) → among (0 ∷ 1 ∷ 3 ∷ 4 ∷ 5 ∷ []) (line_number (read_line l)) ≡ true
+ReaderAnswers = (l : List ℕ) → among (0 ∷ 1 ∷ 3 ∷ 4 ∷ 5 ∷ []) (answer_number (read_line l)) ≡ true
 
 abbrev pub WriterAnswers : Type 0
-WriterAnswers = (e : Event) (out : List ℕ) → among (0 ∷ 2 ∷ 3 ∷ 4 ∷ 5 ∷ []) (write_number (write_answer e out)) ≡ true
+WriterAnswers = (e : Event) (out : List ℕ) → among (0 ∷ 2 ∷ 3 ∷ 4 ∷ 5 ∷ []) (answer_number (write_answer e out)) ≡ true

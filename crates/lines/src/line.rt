@@ -1,7 +1,8 @@
 // The text line of an event: specs/Line.
 ghost use Rattle.std.specs.Prelude.{◌≡◌, ◌*◌, ◌++◌, ◌≤◌, length, drop, Some};
+ghost use Rattle.refusals.specs.Refusals.{answer_number};
 ghost use Rattle.digits.specs.Field.{field_at};
-ghost use Rattle.lines.specs.Line.{line_length, is_line, widths, read_fields, event_read, read_line, line_of, write_answer, bytes_after, line_number, write_number, reader_number, writer_number};
+ghost use Rattle.lines.specs.Line.{line_length, is_line, widths, read_fields, event_read, read_line, line_of, write_answer, bytes_after, reader_number, writer_number};
 
 use digits::BLANK;
 use digits::reading::field;
@@ -87,7 +88,7 @@ fn fields(line: &[u8]) -> Result<Event, Refusal>
 #[tactic(auto, unfolding(crate::specs::Line::read_line), using(crate::proofs::Laws::Numbers::reader_number_is))]
 pub fn read(line: &[u8]) -> Result<Event, Refusal>
     ensures answer { result ≡ read_line line.now }
-    ensures number { line_number result ≡ reader_number line.now }
+    ensures number { answer_number result ≡ reader_number line.now }
 {
     ensure(is_line(line), Refusal::BadLine)?;
     let e = fields(line)?;
@@ -117,7 +118,7 @@ fn put_line(e: Event, out: &mut [u8])
 pub fn write(e: Event, out: &mut [u8]) -> Result<(), Refusal>
     ensures answer { result ≡ write_answer e out.old }
     ensures bytes { out.new ≡ bytes_after e out.old }
-    ensures number { write_number result ≡ writer_number e out.old }
+    ensures number { answer_number result ≡ writer_number e out.old }
 {
     ensure(LINE <= out.len(), Refusal::UnfitMemory)?;
     check(e)?;

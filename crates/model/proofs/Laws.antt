@@ -16,6 +16,7 @@ pub mod Bounds  -- the positions stay within what the collections have moved, an
 pub mod FitKept  -- every accepted event keeps the tables fit
 pub mod Invariant  -- what every accepted event keeps of the tables
 pub mod Batch  -- a list of events keeps the tables safe, and the sums zero
+pub mod Opened  -- what the answer to an opening says of the tables
 pub mod Lists  -- an entry of a history, and the ledger that it was given to
 pub mod Sums  -- the sum of what the ledger answers
 pub mod Theorem  -- demand 3, proved

@@ -20,7 +20,7 @@ use Rattle.model.specs.Deadlines.{kept_due, timely}
 use Rattle.model.specs.Lookups.{mandate_of, collection_of}
 use Rattle.model.specs.Lookups.Known.{known}
 use Rattle.model.specs.Checks.{ruled}
-use Rattle.model.specs.Step.{answer_number, answer, event_number, after, in_query, figure_of, query, query_number, answered, run, Entry, history}
+use Rattle.model.specs.Step.{answer_number, answer, event_number, after, in_query, figure_of, query, answered, run, Entry, history}
 use Rattle.model.specs.Journal.{NotedMandate, NotedCollection, Journal, journal_from, journal, figure_in}
 use Rattle.model.specs.Noted.{noted_known, SameKnown, started}
 
@@ -200,7 +200,7 @@ EventAnswers =
 
 -- any query gets its figure, 2 or 5
 pub record QueryAnswered (l : Ledger) (kind number : ℕ) : Type 0 where
-  pub number_is : query_number (query l kind number) ≡ cond (fit l) (cond (in_query kind number) 0 5) 2
+  pub number_is : answer_number (query l kind number) ≡ cond (fit l) (cond (in_query kind number) 0 5) 2
   pub figure_is : answered (query l kind number) ≡ cond (fit l && in_query kind number) (figure_of l kind number) (pos 0)
 
 abbrev pub QueryAnswers : Type 0

@@ -4,7 +4,6 @@
 use Rattle.std.specs.Prelude.{Bool, true, false, cond, ◌&&◌, List, [], ◌∷◌, ℕ, eqb, leb, ℤ, pos, Result, Ok, Err}
 use Rattle.common.specs.Checks.{Check, check, judged}
 use Rattle.refusals.specs.declared.Refusal.{Refusal}
-use Rattle.refusals.specs.Refusals.{number_of}
 pub use Rattle.refusals.specs.Refusals.{answer_number}  -- the paper's number of an answer
 use Rattle.refusals.specs.declared.Refusal.TheVariants.{UnfitMemory, BadField}
 use Rattle.events.specs.declared.Event.{Event}
@@ -88,10 +87,7 @@ query l kind number =
     (cond (in_query kind number) (Ok (figure_of l kind number)) (Err BadField))
     (Err UnfitMemory)
 
--- the paper's number of its answer, and the value: the figure in cents, 0 where there is none
-abbrev pub query_number : Result ℤ Refusal → ℕ
-query_number r = answer_number r
-
+-- the value of its answer: the figure in cents, 0 where there is none
 abbrev pub answered : Result ℤ Refusal → ℤ
 answered (Ok z) = z
 answered (Err r) = pos 0

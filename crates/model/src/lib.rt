@@ -3,7 +3,7 @@
 #![tactic(auto)]
 
 use refusals::Refusal;
-use tables::Mandate;
+use tables::{Mandate, Undoing};
 
 // How a mandate changes, an amend with code 0 and 1, and a cancel.
 #[derive(Clone, Copy)]
@@ -30,6 +30,22 @@ pub enum Way {
     ByReturn,
     ByRefund(u64, u64),
     ByReversal,
+}
+
+// What the state of an undone collection keeps of it.
+impl From<Way> for Undoing {
+    ghost use Rattle.std.specs.Prelude.{◌≡◌};
+    ghost use Rattle.model.specs.Effects.{undoing_of};
+
+    ghost from_gives = { λ way u. u ≡ undoing_of way };
+
+    fn from(way: Way) -> Undoing {
+        match way {
+            Way::ByReturn => Undoing::Return,
+            Way::ByRefund(..) => Undoing::Refund,
+            Way::ByReversal => Undoing::Reversal,
+        }
+    }
 }
 
 // What becomes of a collection.

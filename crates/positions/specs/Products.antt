@@ -4,7 +4,7 @@
 use Rattle.std.specs.Prelude.{◌≡◌, List, [], ◌∷◌, ◌++◌, ℕ, ◌*◌, leb, Option, Some, None, Result, Ok, Err}
 use Rattle.common.specs.Checks.{Check, check, judged}
 use Rattle.refusals.specs.declared.Refusal.{Refusal}
-use Rattle.refusals.specs.Refusals.{number_of}
+use Rattle.refusals.specs.Refusals.{answer_number}
 use Rattle.refusals.specs.declared.Refusal.TheVariants.{BadField}
 use Rattle.positions.specs.Compensation.{amount_limit, rate_limit, days_limit, parts_of_cent, interest, half_up, compensation_of}
 
@@ -34,11 +34,7 @@ unfoldable pub rate_days_amount_answer : ℕ → ℕ → ℕ → Result ℕ Refu
 rate_days_amount_answer days rate amount =
     judged (rate_days_amount_checks (Err BadField) days rate amount) (Ok (rate_days_amount days rate amount))
 
--- the paper's number of an answer, and the value: the product, 0 where there is none
-abbrev pub product_number : Result ℕ Refusal → ℕ
-product_number (Ok p) = 0
-product_number (Err r) = number_of r
-
+-- the value of an answer: the product, 0 where there is none
 abbrev pub product_value : Result ℕ Refusal → ℕ
 product_value (Ok p) = p
 product_value (Err r) = 0
@@ -46,12 +42,12 @@ product_value (Err r) = 0
 -- the answer of a call, its number and its value
 pub record RateDaysCall (days rate : ℕ) (r : Result ℕ Refusal) : Type 0 where
   pub answer_is : r ≡ rate_days_answer days rate
-  pub number_is : product_number r ≡ judged (rate_days_checks 5 days rate) 0
+  pub number_is : answer_number r ≡ judged (rate_days_checks 5 days rate) 0
   pub value_is : product_value r ≡ judged (rate_days_checks 0 days rate) (days * rate)
 
 pub record RateDaysAmountCall (days rate amount : ℕ) (r : Result ℕ Refusal) : Type 0 where
   pub answer_is : r ≡ rate_days_amount_answer days rate amount
-  pub number_is : product_number r ≡ judged (rate_days_amount_checks 5 days rate amount) 0
+  pub number_is : answer_number r ≡ judged (rate_days_amount_checks 5 days rate amount) 0
   pub value_is : product_value r ≡ judged (rate_days_amount_checks 0 days rate amount) (days * rate * amount)
 
 -- ---- what holds of them

@@ -1,5 +1,5 @@
 // Postings to a table of positions: specs/Positions and specs/Answers.
-ghost use Rattle.std.specs.Prelude.{◌≡◌};
+ghost use Rattle.std.specs.Prelude.{◌≡◌, ◌<◌, length, IfOk};
 ghost use Rattle.positions.specs.Positions.{position, position_limit, has_entry, in_limit};
 ghost use Rattle.positions.specs.Answers.{capacity, entry_index, sizes_answer, post_answer, after_post, transfer_answer, after_transfer};
 
@@ -47,7 +47,8 @@ pub fn position_of(positions: &[i64], number: u64) -> i64
 
 // The index of the entry of a number.
 fn entry_of(positions: &[i64], number: u64) -> Result<usize, PostError>
-    ensures { result ≡ entry_index positions.now number }
+    ensures index { result ≡ entry_index positions.now number }
+    ensures held { IfOk result (λ at. at < length positions.now) }
 {
     is_entry(positions, number)
         .then(|| (number - 1) as usize)
@@ -66,7 +67,7 @@ fn sizes_fit(position: i64, amount: i64) -> Result<(), PostError>
 }
 
 // Posts an amount to the position of a number.
-#[tactic(auto, using(crate::proofs::Laws::Answers::post_steps))]
+#[tactic(auto, using(crate::proofs::Laws::Answers::post_steps), unfolding(crate::specs::Answers::post_answer, crate::specs::Answers::after_post))]
 pub fn post(positions: &mut [i64], number: u64, amount: i64) -> Result<(), PostError>
     ensures answer { result ≡ post_answer positions.old number amount }
     ensures table { positions.new ≡ after_post positions.old number amount }

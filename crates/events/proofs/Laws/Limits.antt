@@ -1,7 +1,7 @@
 -- Laws of specs/Limits. To cite: `checked_facts` (what an event within its limits has: `Limited`), `row_facts` (`Fits`), the
--- facts of each kind (`creditor_facts` to `reversal_facts`), `kind_cases` (an event of known kind is of one of them), and
--- `fields-narrow` (every field fits its column). Nothing but `unfolding table` looks at the rows. Assumes nothing.
-use Rattle.std.proofs.Common.{Err, None, Ok, Option, Result, Some, find}
+-- facts of a kind that others ask for (`creditor_facts` to `refund_facts`), `kind_cases` (an event of known kind is of one of them), and of
+-- every row `row_of_every`, `row_of_codes`, `second_le`. Nothing but `unfolding table` looks at the rows. Assumes nothing.
+use Rattle.std.proofs.Common.{Err, None, Ok, Option, Some, find}
 use mathlib.Core.Path.{◌≡◌, refl, sym, ◌∙◌, ap, subst}
 use mathlib.Core.Bool.{Bool, true, false, cond, ◌&&◌}
 use mathlib.Core.List.{List, [], ◌∷◌}
@@ -10,18 +10,19 @@ use Prim.Native.Nat.{ℕ, zero, suc, ◌+◌, ◌≤◌, ◌<◌}
 use native.Mathlib.Omega.{arith}
 use lib.Dec.{leb, eqb}
 use native.Mathlib.Nat.{le_antisymm, eq-or-lt_of_le}
-use borrow.Author.Tests.{leb-true, le-leb, eqb-true}
-use Rattle.common.proofs.Tests.{never, and_halves, and_true}
+use borrow.Author.Tests.{leb-true, eqb-true}
+use Rattle.std.proofs.lemmas.Option.{cond_some}
+use Rattle.common.proofs.Tests.{never, and_halves}
+use Rattle.common.proofs.Checks.{check_passes}
 use Rattle.calendar.specs.Gregorian.{in_range, last_date}
 use Rattle.calendar.proofs.Laws.Gregorian.{range_facts}
-use Rattle.refusals.specs.declared.Refusal.{Refusal}
 use Rattle.refusals.specs.declared.Refusal.TheVariants.{UnknownKind, BadDate, BadField}
 use Rattle.events.specs.declared.Event.{Event}
 use Rattle.events.specs.declared.limits.Range.{Range}
 use Rattle.events.specs.declared.limits.SecondDate.{SecondDate}
 use Rattle.events.specs.declared.limits.SecondDate.TheVariants.{NoSecond, Dated, NotAfter}
 use Rattle.events.specs.declared.limits.Row.{Row}
-use Rattle.events.specs.Limits.{within, table, row, row_in, row_of, second_fits, row_fits, row_answer_fits, fields_fit, checked, kinds, unnamed, creditor, debtor, bank, number, cents, rate, mandate_codes, sequence_codes, refund_codes, last_kind, only}
+use Rattle.events.specs.Limits.{within, table, row_in, row_of, second_fits, row_fits, row_answer_fits, fields_fit, checked, kinds, creditor, debtor, bank, number, cents, rate, mandate_codes, sequence_codes, refund_codes, last_kind, only}
 
 -- ---- ranges
 
@@ -34,9 +35,6 @@ pub within_between : (r : Range) (x : ℕ) → within r x ≡ true → Between r
 within_between r x e =
     let p = and_halves (leb r.low x) e in
     record { from = leb-true _ _ p.0; to = leb-true _ _ p.1 }
-
-pub between_within : (r : Range) (x : ℕ) → Between r x → within r x ≡ true
-between_within r x b = and_true (le-leb _ _ b.from) (le-leb _ _ b.to)
 
 -- ---- cases on a number
 
@@ -71,7 +69,7 @@ pub row_in_every : (f : Row → Bool) (rs : List Row) (kind code : ℕ) (s : Row
     → every_row f rs ≡ true
     → row_in rs kind code ≡ Some s
     → f s ≡ true
-row_in_every f [] kind code s t e = let z : ◌≡◌ {A = ℕ} 0 1 = cc in absurd (omega arith)
+row_in_every f [] kind code s t e = absurd cc
 row_in_every f (r ∷ rs) kind code s t e =
     let p = and_halves (f r) t in
     ⊎_elim (λ q. ap f (sym q.1) ∙ p.0)
@@ -79,7 +77,7 @@ row_in_every f (r ∷ rs) kind code s t e =
     (cond_found (is_of kind code r) r s (row_in rs kind code) e)
 
 pub row_in_is_of : (rs : List Row) (kind code : ℕ) (s : Row) → row_in rs kind code ≡ Some s → is_of kind code s ≡ true
-row_in_is_of [] kind code s e = let z : ◌≡◌ {A = ℕ} 0 1 = cc in absurd (omega arith)
+row_in_is_of [] kind code s e = absurd cc
 row_in_is_of (r ∷ rs) kind code s e =
     ⊎_elim (λ q. ap (is_of kind code) (sym q.1) ∙ q.0)
     (λ q. row_in_is_of rs kind code s q)
@@ -103,10 +101,6 @@ row_in_find [] kind code = refl
 row_in_find (r ∷ rs) kind code = ap (cond (is_of kind code r) (Some r)) (row_in_find rs kind code)
 
 -- ---- refusals 3, 4 and 5
-
-cond_within : (b : Bool) (x : Result Unit Refusal) (r : Refusal) → cond b x (Err r) ≡ (Ok tt) → (b ≡ true) × (x ≡ (Ok tt))
-cond_within true x r e = (refl, e)
-cond_within false x r e = let z : ◌≡◌ {A = ℕ} 0 1 = cc in absurd (omega arith)
 
 -- the answer of `checked`, by the first check that fails
 module _ (e : Event) where
@@ -189,9 +183,9 @@ fields_looked e t = answer_looked (row_of e.kind e.code) e t
 pub checked_facts : (e : Event) → checked e ≡ (Ok tt) → Limited e
 unfolding checked
 checked_facts e t =
-    let p = cond_within (within kinds e.kind) _ _ t in
-    let q = cond_within (in_range e.date) _ _ p.1 in
-    let f = fields_looked e (cond_within (fields_fit e) _ _ q.1).0 in
+    let p = check_passes (within kinds e.kind) _ _ refl t in
+    let q = check_passes (in_range e.date) _ _ refl p.1 in
+    let f = fields_looked e (check_passes (fields_fit e) _ _ refl q.1).0 in
     record {
       kind = within_between _ _ p.0;
       date = q.0;
@@ -201,10 +195,6 @@ checked_facts e t =
     }
 
 -- ---- the facts of each kind
-
-cond_one : (b : Bool) (r s : Row) → cond b (Some r) None ≡ Some s → (b ≡ true) × (r ≡ s)
-cond_one true r s e = (refl, cc)
-cond_one false r s e = let z : ◌≡◌ {A = ℕ} 0 1 = cc in absurd (omega arith)
 
 -- e fits the row r and has one of its codes
 pub record Of (r : Row) (e : Event) : Type 0 where
@@ -217,7 +207,7 @@ of_one : (e : Event) (r : Row)
     → cond (within r.codes e.code) (Some r) None ≡ Some m.limits
     → Of r e
 of_one e r m t =
-    let p = cond_one (within r.codes e.code) r m.limits t in
+    let p = cond_some (within r.codes e.code) r m.limits t in
     record { code = within_between _ _ p.0; fits = subst (λ (s : Row). Fits s e) (sym p.1) m.fits }
 
 pub record CreditorFields (e : Event) : Type 0 where
@@ -279,15 +269,6 @@ amend_facts e m h =
     inr (le_antisymm o.code.to o.code.from, record { mandate = o.fits.mandate; creditor = o.fits.a }))
     (cond_found (within (only 0) e.code) _ m.limits _ (rw h at m.found))
 
-pub record CancelFields (e : Event) : Type 0 where
-  pub mandate : Between number e.mandate
-
-pub cancel_facts : (e : Event) → Limited e → e.kind ≡ 4 → CancelFields e
-unfolding row_of table
-cancel_facts e m h =
-    let o = of_one e _ m (rw h at m.found) in
-    record { mandate = o.fits.mandate }
-
 pub record CollectFields (e : Event) : Type 0 where
   pub mandate : Between number e.mandate
   pub collection : Between number e.a
@@ -307,31 +288,6 @@ collect_facts e m h =
       code = o.code;
     }
 
--- settle, reject, return and reversal name a collection
-pub record CollectionField (e : Event) : Type 0 where
-  pub collection : Between number e.a
-
-collection_of_lem : (e : Event) (k : ℕ)
-    → (row_of k e.code ≡ cond (within unnamed e.code) (Some (row k unnamed unnamed number unnamed unnamed unnamed NoSecond)) None)
-    → Limited e
-    → e.kind ≡ k
-    → CollectionField e
-collection_of_lem e k t m h =
-    let o = of_one e _ m (sym t ∙ (rw h at m.found)) in
-    record { collection = o.fits.a }
-
-pub settle_facts : (e : Event) → Limited e → e.kind ≡ 6 → CollectionField e
-unfolding row_of table
-settle_facts e = collection_of_lem e 6 refl
-
-pub reject_facts : (e : Event) → Limited e → e.kind ≡ 7 → CollectionField e
-unfolding row_of table
-reject_facts e = collection_of_lem e 7 refl
-
-pub return_facts : (e : Event) → Limited e → e.kind ≡ 8 → CollectionField e
-unfolding row_of table
-return_facts e = collection_of_lem e 8 refl
-
 pub record RefundFields (e : Event) : Type 0 where
   pub collection : Between number e.a
   pub rate : Between rate e.b
@@ -342,10 +298,6 @@ unfolding row_of table
 refund_facts e m h =
     let o = of_one e _ m (rw h at m.found) in
     record { collection = o.fits.a; rate = o.fits.b; code = o.code }
-
-pub reversal_facts : (e : Event) → Limited e → e.kind ≡ 10 → CollectionField e
-unfolding row_of table
-reversal_facts e = collection_of_lem e 10 refl
 
 -- ---- the cases on a known kind
 

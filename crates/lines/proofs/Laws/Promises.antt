@@ -12,10 +12,11 @@ use borrow.Author.Tests.{le-leb, eqb-true, eq-eqb}
 use Rattle.common.proofs.Tests.{and_halves, and_true}
 use Rattle.calendar.specs.Gregorian.{in_range}
 use Rattle.refusals.specs.declared.Refusal.{Refusal}
+use Rattle.refusals.specs.Refusals.{answer_number}
 use Rattle.refusals.specs.declared.Refusal.TheVariants.{BadLine, UnfitMemory, UnknownKind, BadDate, BadField}
 use Rattle.events.specs.declared.Event.{Event}
 use Rattle.events.specs.Limits.{within, kinds, fields_fit, checked}
-use Rattle.lines.specs.Line.{widths, fields_of, event_of, columns, line_length, line_end, fields_bytes, line_of, Fields, Values, Unreadable, read_fields, answer_of, taken, read_line, write_answer, bytes_after, line_number, write_number, written_of}
+use Rattle.lines.specs.Line.{widths, fields_of, event_of, columns, line_length, line_end, fields_bytes, line_of, Fields, Values, Unreadable, read_fields, answer_of, taken, read_line, write_answer, bytes_after, written_of}
 use Rattle.common.specs.Tests.{among}
 use Rattle.lines.specs.Promises.{LineHasItsLength, ReadsWhatWasWritten, WritesWhatWasRead, OnlyWithinIsTaken, EveryEventHasALine, NoEventHasTwoLines, NoLineHasTwoEvents, ReaderAnswers, WriterAnswers}
 use Rattle.events.proofs.Laws.Limits.{checked_facts}
@@ -128,14 +129,14 @@ writes_what_was_read l e out t h =
 -- the answer of a line whose event fails one of the checks, or none
 event_number_lem : (e : Event) (kind date field : Bool)
     → among (0 ∷ 1 ∷ 3 ∷ 4 ∷ 5 ∷ [])
-    (line_number (answer_of e (cond kind (cond date (cond field (Ok tt) (Err BadField)) (Err BadDate)) (Err UnknownKind))))
+    (answer_number (answer_of e (cond kind (cond date (cond field (Ok tt) (Err BadField)) (Err BadDate)) (Err UnknownKind))))
     ≡ true
 event_number_lem e false date field = refl
 event_number_lem e true false field = refl
 event_number_lem e true true false = refl
 event_number_lem e true true true = refl
 
-taken_number : (f : Fields) → among (0 ∷ 1 ∷ 3 ∷ 4 ∷ 5 ∷ []) (line_number (taken f)) ≡ true
+taken_number : (f : Fields) → among (0 ∷ 1 ∷ 3 ∷ 4 ∷ 5 ∷ []) (answer_number (taken f)) ≡ true
 unfolding checked
 taken_number Unreadable = refl
 taken_number (Values vs) =
@@ -143,7 +144,7 @@ taken_number (Values vs) =
     event_number_lem e (within kinds e.kind) (in_range e.date) (fields_fit e)
 
 line_number_lem : (b : Bool) (f : Fields)
-    → among (0 ∷ 1 ∷ 3 ∷ 4 ∷ 5 ∷ []) (line_number (cond b (taken f) (Err BadLine))) ≡ true
+    → among (0 ∷ 1 ∷ 3 ∷ 4 ∷ 5 ∷ []) (answer_number (cond b (taken f) (Err BadLine))) ≡ true
 line_number_lem false f = refl
 line_number_lem true f = taken_number f
 
@@ -153,7 +154,7 @@ reader_answers l = line_number_lem (eqb (length l) line_length && eqb (get_or l 
 
 write_number_lem : (room kind date field : Bool)
     → among (0 ∷ 2 ∷ 3 ∷ 4 ∷ 5 ∷ [])
-    (write_number
+    (answer_number
     (written_of
     (cond room
     (cond kind (cond date (cond field (Ok tt) (Err BadField)) (Err BadDate)) (Err UnknownKind))

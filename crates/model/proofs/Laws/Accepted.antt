@@ -5,8 +5,8 @@ use Rattle.std.proofs.Common.{Err, Ok, Result}
 use mathlib.Core.Path.{◌≡◌, refl, subst}
 use mathlib.Core.Bool.{Bool, true, false}
 use Prim.Native.Nat.{ℕ}
-use native.Mathlib.Omega.{arith}
 use Rattle.common.proofs.Tests.{never, and_halves}
+use Rattle.common.proofs.Checks.{check_passes}
 use Rattle.refusals.specs.declared.Refusal.{Refusal}
 use Rattle.refusals.specs.declared.Refusal.TheVariants.{UnfitMemory}
 use Rattle.calendar.specs.Gregorian.{in_range}
@@ -27,7 +27,7 @@ use Rattle.model.specs.Deadlines.{in_time}
 use Rattle.model.specs.Checks.{is_presented, is_settled, state_fits, settled_on, time_treated, ruled}
 use Rattle.model.specs.Effects.{effect}
 use Rattle.model.specs.Step.{is_accepted, then_ruled, answer, after_answer, after}
-use Rattle.model.proofs.Laws.Sound.{Sound, sound_event, passes_first, Passed, passed}
+use Rattle.model.proofs.Laws.Sound.{Sound, sound_event, Passed, passed}
 use Rattle.model.proofs.Laws.Effects.{of_known_lem, CollectionThere}
 
 -- ---- an accepted event
@@ -41,13 +41,13 @@ pub record Accepts (l : Ledger) (e : Event) : Type 0 where
 
 checked_passed : (c : Result Unit Refusal) (a : Result Unit Refusal) → then_ruled c a ≡ (Ok tt) → (c ≡ (Ok tt)) × (a ≡ (Ok tt))
 checked_passed (Ok tt) a e = (refl, e)
-checked_passed (Err r) a e = let z : ◌≡◌ {A = ℕ} 0 1 = cc in absurd (omega arith)
+checked_passed (Err r) a e = absurd cc
 
 pub accepted_facts : (l : Ledger) (e : Event) → answer l e ≡ (Ok tt) → Accepts l e
 unfolding answer
 accepted_facts l e h =
     let rules = ruled l e.date (action_of e) in
-    let f = passes_first (fit l) (Err UnfitMemory) (then_ruled (checked e) rules) refl h in
+    let f = check_passes (fit l) (then_ruled (checked e) rules) (Err UnfitMemory) refl h in
     let c = checked_passed (checked e) rules f.1 in
     let s = sound_event e c.0 in
     record { fits = f.0; is_within = c.0; range = s.0; sound = s.1; passed = passed l e.date (action_of e) c.1 }

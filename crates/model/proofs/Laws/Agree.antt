@@ -5,6 +5,7 @@ use mathlib.Core.Bool.{Bool, true, false, cond}
 use Prim.Native.Nat.{ℕ}
 use lib.Dec.{eqb}
 use lib.IntN.{ℤ, pos, ◌+ℤ◌, +ℤ_idr}
+use Rattle.common.proofs.Tests.{same_arms}
 use Rattle.positions.specs.Positions.{position}
 use Rattle.tables.specs.Ledger.{Ledger}
 use Rattle.tables.specs.declared.Mandate.{Mandate}
@@ -39,10 +40,6 @@ figures_made base l j creditors debtors banks paid kind number =
     picked_sum (eqb kind 1) (eqb kind 2) (eqb kind 3) _ _ _ _ _ _ _ _ _ _ _ _ (creditors number) (debtors number) (banks number) paid
 
 -- nothing was posted yet
-pub same_arms : {A : Type 0} (b : Bool) (a : A) → cond b a a ≡ a
-same_arms true a = refl
-same_arms false a = refl
-
 pub unmoved : (l : Ledger) (kind number : ℕ) → figure_of l kind number ≡ figure_of l kind number +ℤ figure_in empty kind number
 unmoved l kind number = rw (same_arms (eqb kind 3) (pos 0), same_arms (eqb kind 2) (pos 0), same_arms (eqb kind 1) (pos 0)) (sym (+ℤ_idr (figure_of l kind number)))
 

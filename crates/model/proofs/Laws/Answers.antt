@@ -1,13 +1,20 @@
--- The answers in the paper's numbers. To cite: `event_numbers`, `event_answers`, `query_answers`, `opening_answers`. Assumes nothing.
+-- The answers in the paper's numbers. To cite: `accepted_number`, `event_numbers`, `event_answers`, `query_facts`, `query_answers`,
+-- `opening_answers`. Assumes nothing.
 use Rattle.std.proofs.Common.{Err, Ok, Result}
-use mathlib.Core.Path.{◌≡◌, refl, ap, ◌∙◌}
+use mathlib.Core.Path.{◌≡◌, refl, sym, ap, ◌∙◌}
 use mathlib.Core.Bool.{Bool, true, false, cond, ◌&&◌}
 use mathlib.Core.List.{List, [], ◌∷◌}
 use Prim.Native.Nat.{ℕ}
+use native.Mathlib.Omega.{arith}
+use borrow.Author.Tests.{ne_eqb}
+use lib.Dec.{eqb}
 use lib.IntN.{ℤ, pos}
 use Rattle.common.proofs.Tests.{and_halves}
+use Rattle.common.proofs.Checks.{check_passes}
 use Rattle.refusals.specs.declared.Refusal.{Refusal}
+use Rattle.refusals.specs.Refusals.{number_of}
 use Rattle.refusals.specs.declared.Refusal.TheVariants.{UnfitMemory, BadField}
+use Rattle.refusals.proofs.Laws.Refusals.{number_of_pos}
 use Rattle.common.specs.Checks.{Check, check, judged}
 use Rattle.calendar.specs.Gregorian.{in_range}
 use Rattle.events.specs.declared.Event.{Event}
@@ -20,7 +27,7 @@ use Rattle.opening.specs.Opening.{OpenResult, opening}
 use Rattle.opening.proofs.Laws.Opening.{opening_done, opening_refused}
 use Rattle.model.specs.Actions.{action_of}
 use Rattle.model.specs.Checks.{checks, ruled}
-use Rattle.model.specs.Step.{answer_number, then_ruled, answer, numbers, event_number, in_query, figure_of, query, query_number, answered}
+use Rattle.model.specs.Step.{answer_number, is_accepted, then_ruled, answer, numbers, event_number, in_query, figure_of, query, answered}
 use Rattle.model.specs.Promises.{EventNumbers, EventAnswers, QueryAnswers, OpeningAnswers}
 
 -- ---- an ordered list and its numbers
@@ -43,6 +50,11 @@ judged_number f [] a = refl
 judged_number f (c ∷ cs) a = first_number f c.passes (judged cs a) c.failing (judged (numbered f cs) (f a)) (judged_number f cs a)
 
 -- ---- an event
+
+-- it is accepted exactly where its number is 0
+pub accepted_number : (a : Result Unit Refusal) → is_accepted a ≡ eqb (answer_number a) 0
+accepted_number (Ok tt) = refl
+accepted_number (Err r) = sym (ne_eqb (number_of r) 0 (λ e. omega (arith, number_of_pos r)))
 
 module _ (l : Ledger) (e : Event) where
   ruled_number : answer_number (ruled l e.date (action_of e)) ≡ judged (numbered answer_number (checks l e.date (action_of e))) 0
@@ -94,7 +106,14 @@ event_answers l e =
 
 -- ---- a query and an opening
 
-query_number_lem : (f q : Bool) (z : ℤ) → query_number (cond f (cond q (Ok z) (Err BadField)) (Err UnfitMemory)) ≡ cond f (cond q 0 5) 2
+-- a query that is answered has its figure, and the ledger is fit
+pub query_facts : (l : Ledger) (kind number : ℕ) (z : ℤ) → query l kind number ≡ Ok z → (fit l ≡ true) × (figure_of l kind number ≡ z)
+unfolding query
+query_facts l kind number z e =
+    let f = check_passes (fit l) _ (Err UnfitMemory) refl e in
+    (f.0, ap answered (check_passes (in_query kind number) _ (Err BadField) refl f.1).1)
+
+query_number_lem : (f q : Bool) (z : ℤ) → answer_number (cond f (cond q (Ok z) (Err BadField)) (Err UnfitMemory)) ≡ cond f (cond q 0 5) 2
 query_number_lem true true z = refl
 query_number_lem true false z = refl
 query_number_lem false q z = refl

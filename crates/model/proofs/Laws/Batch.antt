@@ -1,5 +1,5 @@
 -- A list of events, one after the other, keeps the tables safe, so that what is tested once need not be tested again, and the sums zero.
--- To cite: `after_safe`, `run_safe`, `run_balanced`, `run_more`, `opened_safe`, `opened_balanced`. Assumes nothing.
+-- To cite: `after_safe`, `run_safe`, `run_balanced`, `run_both`, `opened_safe`, `opened_balanced`. Assumes nothing.
 use mathlib.Core.Path.{◌≡◌, refl}
 use mathlib.Core.Bool.{true}
 use mathlib.Core.List.{List, [], ◌∷◌, ◌++◌}
@@ -40,11 +40,11 @@ after_balanced l e b =
 pub run_balanced : (es : List Event) (l : Ledger) → Balanced l → Balanced (run l es)
 run_balanced = run_keeps Balanced after_balanced
 
--- one event more
-pub run_more : (es : List Event) (l : Ledger) (e : Event) → run l (es ++ (e ∷ [])) ≡ after (run l es) e
+-- one list after the other
+pub run_both : (es fs : List Event) (l : Ledger) → run l (es ++ fs) ≡ run (run l es) fs
 unfolding run
-run_more [] l e = refl
-run_more (x ∷ es) l e = run_more es (after l x) e
+run_both [] fs l = refl
+run_both (e ∷ es) fs l = run_both es fs (after l e)
 
 -- an accepted opening starts it
 pub opened_safe : (t : Ledger) → sizes_fit t ≡ true → Safe (opened t)

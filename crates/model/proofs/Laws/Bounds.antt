@@ -1,22 +1,27 @@
 -- The positions stay within what the collections have moved, and the sums stay zero.
--- To cite: `Balanced`, `Posting` with `settle_posting` and `undo_posting`, `bounded_posted`, `balanced_posted`. Assumes nothing.
+-- To cite: `days_in_time`, `larger_sizes`, `entries_within`, `Balanced`, `Posting` with `settle_posting` and `undo_posting`, `bounded_posted`,
+-- `balanced_posted`. Assumes nothing.
 use mathlib.Core.Path.{◌≡◌, refl, sym, ◌∙◌}
 use mathlib.Core.Bool.{true}
 use mathlib.Core.List.{List}
-use Prim.Native.Nat.{ℕ, ◌+◌, ◌≤◌}
+use Prim.Native.Nat.{ℕ, zero, suc, ◌+◌, ◌≤◌, ◌<◌}
 use native.Mathlib.Omega.{arith}
 use lib.IntN.{ℤ, pos, neg_ℤ, nat_abs, ◌+ℤ◌, neg_ℤ-neg_ℤ}
+use borrow.Author.Tests.{ltb-true, ltb-false}
+use lib.Dec.{ltb}
+use lib.ListN.{length, get_or, get_or-eq_default}
+use Rattle.common.proofs.Tests.{either}
 use Rattle.calendar.specs.Gregorian.{in_range}
 use Rattle.calendar.proofs.Laws.Gregorian.{range_facts}
 use Rattle.calendar.proofs.Laws.DayNumber.{day_number_mono_le}
 use Rattle.positions.specs.declared.Postings.{Postings}
-use Rattle.positions.specs.Positions.{HasEntry, position, posted, transferred, total}
+use Rattle.positions.specs.Positions.{HasEntry, position, posted, transferred, total, InLimit}
 use Rattle.positions.specs.Postings.{settlement, reversed, refunded}
 use Rattle.positions.specs.Compensation.{compensation as compensationFor, amount_limit, days_limit}
 use Rattle.positions.specs.Limits.{compensation_limit}
 use Rattle.positions.proofs.Laws.Positions.{size_posted, size_transferred}
 use Rattle.positions.proofs.Laws.Postings.{party_sum, bank_sum, AtMost, settlement_size, reversed_size, refunded_size, settlement_parties, reversed_parties, refunded_parties, settlement_banks, reversed_banks, refunded_banks, parties_keep, banks_keep}
-use Rattle.positions.proofs.Laws.Limits.{compensation_bound}
+use Rattle.positions.proofs.Laws.Limits.{refund_days, compensation_bound}
 use Rattle.tables.specs.Ledger.{Ledger}
 use Rattle.tables.specs.declared.Collection.{Collection}
 use Rattle.model.specs.declared.Way.{Way}
@@ -30,7 +35,7 @@ use Rattle.model.proofs.Laws.Limits.{at_most_limit, longest_way, last_day_found}
 -- ---- the days of an undoing in time
 
 -- so the calendar days of an undoing in time are few
-pub days_in_time : (way : Way) (settled date : ℕ) → in_range settled ≡ true → in_range date ≡ true → in_time way settled date ≡ true → days_since settled date ≤ days_limit
+pub days_in_time : (way : Way) (settled date : ℕ) → in_range settled ≡ true → in_range date ≡ true → in_time way settled date ≡ true → days_since settled date ≤ refund_days
 days_in_time way settled date rs rd h =
     let e = last_day_found way settled rs in
     let l = at_most_limit date e.date (last_day way settled) e.is h in
@@ -85,17 +90,20 @@ refunded_posting A K =
       cents_le = omega arith;
     }
 
+pub larger_sizes : {m n : ℕ} {p : Postings} → m ≤ n → AtMost m p → AtMost n p
+larger_sizes {m} {n} {p} h a =
+    record {
+      debtor = omega (arith, a.debtor);
+      creditor = omega (arith, a.creditor);
+      dbank = omega (arith, a.dbank);
+      cbank = omega (arith, a.cbank);
+      compensation = omega (arith, a.compensation);
+    }
+
 pub larger : {m n : ℕ} {p : Postings} → m ≤ n → Posting m p → Posting n p
 larger {m} {n} {p} h q =
     record {
-      sizes =
-          record {
-            debtor = omega (arith, q.sizes.debtor);
-            creditor = omega (arith, q.sizes.creditor);
-            dbank = omega (arith, q.sizes.dbank);
-            cbank = omega (arith, q.sizes.cbank);
-            compensation = omega (arith, q.sizes.compensation);
-          };
+      sizes = larger_sizes h q.sizes;
       opposite = q.opposite;
       parties = q.parties;
       banks = q.banks;
@@ -113,6 +121,15 @@ undo_posting (ByRefund rate code) A settled date s a d =
 undo_posting ByReversal A settled date s a d = larger (omega arith) (reversed_posting A)
 
 -- ---- bounds
+
+-- a table whose entries are within a limit
+pub entries_within : (m : ℕ) (table : List ℤ) → ((i : ℕ) → i < length table → nat_abs (get_or table i (pos 0)) ≤ m) → InLimit m table
+unfolding position
+entries_within m table f zero = omega arith
+entries_within m table f (suc i) =
+    either (ltb i (length table))
+    (λ e. f i (ltb-true i (length table) e))
+    (λ e. rw (get_or-eq_default table (pos 0) (ltb-false i (length table) e)) (omega arith))
 
 pub record Balanced (l : Ledger) : Type 0 where
   pub parties : total l.creditor_positions +ℤ total l.debtor_positions +ℤ l.compensation ≡ pos 0

@@ -3,12 +3,12 @@
 use mathlib.Core.Path.{◌≡◌, refl, sym, ap, ◌∙◌}
 use mathlib.Core.Bool.{Bool, true, false, cond, ◌&&◌}
 use mathlib.Core.List.{List, [], ◌∷◌}
-use mathlib.Core.Logic.{⊎_elim}
 use Prim.Native.Nat.{ℕ, ◌+◌, ◌≤◌, ◌<◌}
+use native.Mathlib.Nat.{add-zero}
 use native.Mathlib.Omega.{arith}
 use lib.Dec.{eqb}
 use borrow.Author.Tests.{ltb-true, eqb-true, eqb-false, eq-eqb, ne_eqb}
-use Rattle.common.proofs.Tests.{true_or_false, not_true, and_halves}
+use Rattle.common.proofs.Tests.{either, not_true, and_halves}
 use Rattle.events.specs.declared.Event.{Event}
 use Rattle.common.specs.Tests.{among}
 use Rattle.tables.specs.Ledger.{Ledger}
@@ -76,9 +76,6 @@ count_le sort (known k) = by_state k.state sort
 abbrev Counts : (Sort → ℕ → ℕ) → (Sort → ℕ → ℕ) → Action → Type 0
 Counts t t' a = (sort : Sort) (c : ℕ) → t' sort c ≡ t sort c + cond (treats sort c a) 1 0
 
-uncounted : {n m : ℕ} → m ≡ n + 0 → m ≡ n
-uncounted {n} {m} e = omega arith
-
 none_presented : (sort : Sort) → count_in sort Presented ≡ 0
 none_presented = every_sort (λ x. count_in x Presented ≡ 0) refl refl refl
 
@@ -99,7 +96,7 @@ module _ (l : Ledger) (t t' : Sort → ℕ → ℕ) (date : ℕ) (g : Counted l 
   counted_collect p h r u n sort c =
       let k = new_collection l.creditors p h.mandate in
       rw (effect_collect l date p h, collection_of_add (keep_mandate (dated l date) h.row (presented_on p h.mandate)) k r u c)
-      (uncounted (n sort c) ∙ g sort c ∙ by_test (eqb c p.collection) refl)
+      (n sort c ∙ add-zero _ ∙ g sort c ∙ by_test (eqb c p.collection) refl)
     where
       by_test : (b : Bool) → eqb c p.collection ≡ b → count_known sort (collection_of l c) ≡ count_known sort (cond b (known (new_collection l.creditors p h.mandate)) (collection_of l c))
       by_test true q = rw (eqb-true c p.collection q, u) (sym (none_presented sort))
@@ -117,23 +114,22 @@ module _ (l : Ledger) (t t' : Sort → ℕ → ℕ) (date : ℕ) (g : Counted l 
   counted_treat n h tr st cs sort c =
       let k = treated tr date h.collection in
       rw (effect_treat l date n tr h, posted_same (keep_collection (dated l date) h.row k) tr h.collection c, collections_kept l date n h k (treated_number tr date h.collection ∙ h.number) c)
-      (⊎_elim
+      (either (eqb c n)
       (λ b.
       let i = eqb-true c n b in
       let was = g sort n ∙ ap (count_known sort) h.is in
       rw b (rw i (cs sort n ∙ rw (eq-eqb n n refl, was, count_after sort tr date h.collection.state st))))
       (λ b.
       let i = eqb-false c n b in
-      rw b (cs sort c ∙ rw (ne_eqb n c (λ s. i (sym s))) (omega (arith, g sort c))))
-      (true_or_false (eqb c n)))
+      rw b (cs sort c ∙ rw (ne_eqb n c (λ s. i (sym s))) (omega (arith, g sort c)))))
 
   counted_kept : (a : Action) → fit l ≡ true → Passed l date a → Counts t t' a → Counted (effect l date a) t'
   unfolding effect collection_of
-  counted_kept (AddCreditor a b) f p n sort c = uncounted (n sort c) ∙ g sort c
-  counted_kept (AddMandate m) f p n sort c = uncounted (n sort c) ∙ g sort c
+  counted_kept (AddCreditor a b) f p n sort c = n sort c ∙ add-zero _ ∙ g sort c
+  counted_kept (AddMandate m) f p n sort c = n sort c ∙ add-zero _ ∙ g sort c
   counted_kept (ChangeMandate i x) f p n sort c =
       let h = mandate_there_lem l i f (and_halves (is_known (mandate_of l i)) p.there).0 in
-      rw (effect_change l date i x h) (uncounted (n sort c) ∙ g sort c)
+      rw (effect_change l date i x h) (n sort c ∙ add-zero _ ∙ g sort c)
   counted_kept (Collect p) f q n sort c =
       counted_collect p (mandate_there_lem l p.mandate f q.there) (ltb-true l.collections_used (rows l.collections) q.row)
       (not_known (collection_of l p.collection) (not_true q.new)) n sort c

@@ -1,7 +1,7 @@
 -- Every accepted event keeps the tables fit, as long as the positions stay within their limit.
--- To cite: `fit_creditor`, `fit_mandate_added`, `fit_change`, `fit_collect`, `fit-treated`. Assumes nothing.
+-- To cite: `fit_creditor`, `fit_mandate_added`, `fit_change`, `fit_collect`, `fit_kept`, `fit_posted`. Assumes nothing.
 use mathlib.Core.Path.{◌≡◌, refl, ap, ◌∙◌}
-use mathlib.Core.Bool.{Bool, true, false, ◌&&◌, ◌||◌}
+use mathlib.Core.Bool.{Bool, true, ◌&&◌}
 use mathlib.Core.Logic.{◌≢◌}
 use mathlib.Core.List.{List}
 use Prim.Native.Nat.{ℕ, suc, ◌-◌, ◌≤◌, ◌<◌}
@@ -10,6 +10,7 @@ use lib.Dec.{eqb, leb}
 use lib.IntN.{ℤ, pos, nat_abs, ◌+ℤ◌}
 use lib.ListN.{get_or, set, length-set}
 use borrow.Author.Tests.{le-leb}
+use Rattle.std.proofs.lemmas.Bool.{or_right}
 use Rattle.calendar.specs.Gregorian.{in_range}
 use Rattle.positions.specs.Positions.{position, posted}
 use Rattle.positions.proofs.Laws.Positions.{length_posted, posted_index, position_index, position_posted_same}
@@ -39,18 +40,13 @@ use Rattle.model.specs.Effects.{dated, keep_mandate, add_collection, keep_collec
 use Rattle.model.proofs.Laws.Sound.{SoundCreditor, SoundMandate, SoundChange, SoundPresentation}
 use Rattle.model.proofs.Laws.Effects.{MandateThere, CollectionThere, creditor_entry, effect_change, effect_collect}
 use Rattle.model.proofs.Laws.Limits.{kept_found}
-use Rattle.model.specs.Bounds.{spent}
+use Rattle.model.specs.Bounds.{spent, Bounded}
 use Rattle.model.proofs.Laws.Spent.{spent_limit}
-use Rattle.model.specs.Bounds.{Bounded}
 
 -- ---- dates
 
-or_right : (a : Bool) {b : Bool} → b ≡ true → a || b ≡ true
-or_right true e = refl
-or_right false e = e
-
 date_fits : (x : ℕ) → in_range x ≡ true → none_or_date x ≡ true
-date_fits x e = or_right (eqb x 0) e
+date_fits x e = or_right (eqb x 0) _ e
 
 -- ---- sizes
 

@@ -17,7 +17,7 @@ use Rattle.fitness.specs.Fitness.{fit}
 use Rattle.tables.specs.declared.Mandate.{Mandate}
 use Rattle.tables.specs.declared.Collection.{Collection}
 use Rattle.tables.specs.declared.State.TheVariants.{Presented, Settled}
-use Rattle.fitness.proofs.Laws.Fitness.{Fit, fit_facts}
+use Rattle.fitness.proofs.Laws.Fitness.{fit_facts}
 use Rattle.model.specs.declared.Action.{Action}
 use Rattle.model.specs.declared.Change.{Change}
 use Rattle.model.specs.declared.Presentation.{Presentation}
@@ -46,14 +46,11 @@ module _ (l : Ledger) (n date : ℕ) (range : in_range date ≡ true) (h : Colle
   undo_post way o u =
       subst (λ (i : ℕ). Posting (amount_limit + compensation_limit) (undone way h.collection.amount i date)) (sym (ap settled_on u.state))
       (undo_posting way h.collection.amount u.day date o h.fits.amount_fit.to
-      (days_in_time way u.day date u.real range u.in_time_lem))
+      (omega (arith, days_in_time way u.day date u.real range u.in_time_lem)))
 
 -- ---- each event keeps the tables safe
 
 module _ (l : Ledger) (date : ℕ) (s : Safe l) (range : in_range date ≡ true) where
-  facts : Fit l
-  facts = fit_facts l s.fits
-
   order : (a : Action) → Passed l date a → l.latest ≤ date
   order a p = leb-true l.latest date p.order
 

@@ -2,7 +2,6 @@
 -- To cite: `agrees_creditor`, `agrees_mandate`, `agrees_change`, `agrees_collect`. Assumes nothing.
 use mathlib.Core.Path.{◌≡◌, refl, sym, ap, ◌∙◌}
 use mathlib.Core.Bool.{Bool, true, false, cond}
-use mathlib.Core.Logic.{⊎_elim}
 use mathlib.Core.List.{List}
 use Prim.Native.Nat.{ℕ, ◌-◌, ◌≤◌, ◌<◌}
 use native.Mathlib.Omega.{arith}
@@ -10,12 +9,11 @@ use lib.Dec.{eqb}
 use lib.ListN.{length, set}
 use lib.Seq.{get_or-set_same, get_or-set_other}
 use borrow.Author.Tests.{eqb-true, eqb-false}
-use Rattle.common.proofs.Tests.{true_or_false, not_true}
+use Rattle.common.proofs.Tests.{either, not_true}
 use Rattle.tables.specs.Limits.{creditor_count}
 use Rattle.tables.specs.Ledger.{Ledger, bank_of}
 use Rattle.tables.specs.Rows.{rows}
 use Rattle.tables.specs.declared.Mandate.{Mandate}
-use Rattle.tables.specs.declared.State.TheVariants.{Presented, Settled}
 use Rattle.tables.proofs.Laws.Ledger.{bank_of_zero, bank_of_at}
 use Rattle.fitness.proofs.Laws.Fitness.{Within}
 use Rattle.model.specs.declared.Change.{Change}
@@ -33,14 +31,11 @@ use Rattle.model.proofs.Laws.Effects.{MandateThere, changed_number, presented_nu
 use Rattle.model.proofs.Laws.Wordings.{change_of, present_of, collection_noted, note_of}
 use Rattle.model.proofs.Laws.Agree.{noted_mandate, same_cond}
 
-presented_not_settled : (s : ℕ) → Presented ≡ Settled s → ⊥
-presented_not_settled s e = let z : ◌≡◌ {A = ℕ} 0 1 = cc in omega arith
-
 -- ---- event 1
 
 bank_of_set : (creditors : List ℕ) (a b : ℕ) → 1 ≤ a → a ≤ length creditors → (n : ℕ) → bank_of (set creditors (a - 1) b) n ≡ cond (eqb n a) b (bank_of creditors n)
 bank_of_set creditors a b low high n =
-    ⊎_elim
+    either (eqb n a)
     (λ q.
     let p = eqb-true n a q in
     rw q
@@ -49,15 +44,13 @@ bank_of_set creditors a b low high n =
     (λ q.
     let p = eqb-false n a q in
     rw q
-    (⊎_elim
+    (either (eqb n 0)
     (λ z. bank_of_zero (set creditors (a - 1) b) n (eqb-true n 0 z) ∙ sym (bank_of_zero creditors n (eqb-true n 0 z)))
     (λ z.
     let ne = eqb-false n 0 z in
     bank_of_at (set creditors (a - 1) b) n ne
     ∙ get_or-set_other creditors (a - 1) (n - 1) b 0 (λ i. p (omega (arith, ne)))
-    ∙ sym (bank_of_at creditors n ne))
-    (true_or_false (eqb n 0))))
-    (true_or_false (eqb n a))
+    ∙ sym (bank_of_at creditors n ne))))
 
 module _ (base l : Ledger) (j : Journal) (date : ℕ) (g : Agrees base l j) where
   pub agrees_creditor : (a b : ℕ) → Within 1 creditor_count a → length l.creditors ≡ creditor_count → Agrees base (effect l date (AddCreditor a b)) (note_of j date (AddCreditor a b))
@@ -146,7 +139,7 @@ module _ (base l : Ledger) (j : Journal) (date : ℕ) (g : Agrees base l j) wher
         cbank = g.banks m.creditor;
         dbank = refl;
         amount = refl;
-        settled = λ s e. absurd (presented_not_settled s e);
+        settled = λ s e. absurd cc;
       }
 
   pub agrees_collect : (p : Presentation) (h : MandateThere l p.mandate) → l.collections_used < rows l.collections → collection_of l p.collection ≡ unknown → Agrees base (effect l date (Collect p)) (note_of j date (Collect p))

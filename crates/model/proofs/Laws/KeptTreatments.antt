@@ -2,14 +2,13 @@
 -- To cite: `agrees_settle`, `agrees_reject`, `agrees_undo`. Assumes nothing.
 use mathlib.Core.Path.{◌≡◌, refl, sym, ap, subst, ◌∙◌}
 use mathlib.Core.Bool.{Bool, true, false, cond}
-use mathlib.Core.Logic.{⊎_elim, ◌≢◌}
+use mathlib.Core.Logic.{◌≢◌}
 use mathlib.Core.List.{List}
 use Prim.Native.Nat.{ℕ}
-use native.Mathlib.Omega.{arith}
 use lib.Dec.{eqb}
 use lib.IntN.{ℤ, ◌+ℤ◌, +ℤ_assoc}
 use borrow.Author.Tests.{eqb-true, eqb-false, eq-eqb, ne_eqb}
-use Rattle.common.proofs.Tests.{true_or_false}
+use Rattle.common.proofs.Tests.{either}
 use Rattle.positions.specs.declared.Postings.{Postings}
 use Rattle.positions.specs.Postings.{settlement}
 use Rattle.positions.specs.Positions.{HasEntry, position, posted}
@@ -17,8 +16,7 @@ use Rattle.positions.proofs.Laws.Positions.{entry_posted, position_posted_same, 
 use Rattle.tables.specs.Ledger.{Ledger}
 use Rattle.tables.specs.declared.Collection.{Collection}
 use Rattle.tables.specs.declared.State.{State}
-use Rattle.tables.specs.declared.State.TheVariants.{Rejected, Settled, Undone}
-use Rattle.tables.specs.declared.Undoing.{Undoing}
+use Rattle.tables.specs.declared.State.TheVariants.{Settled}
 use Rattle.fitness.proofs.Laws.Fitness.{Sizes}
 use Rattle.model.specs.declared.Treatment.{Treatment}
 use Rattle.model.specs.declared.Way.{Way}
@@ -36,27 +34,18 @@ use Rattle.model.proofs.Laws.Effects.{CollectionThere, creditor_entry, debtor_en
 use Rattle.model.proofs.Laws.Wordings.{with_figures, note_of}
 use Rattle.model.proofs.Laws.Agree.{figures_made, NotedAs, noted_collection_lem}
 
--- ---- states
-
-undone_not : {d : ℕ} {u : Undoing} (s : ℕ) → Undone d u ≡ Settled s → ⊥
-undone_not s e = let z : ◌≡◌ {A = ℕ} 0 1 = cc in omega arith
-
-rejected_not : (s : ℕ) → Rejected ≡ Settled s → ⊥
-rejected_not s e = let z : ◌≡◌ {A = ℕ} 0 1 = cc in omega arith
-
 -- ---- figures
 
 -- a position is that of the base and a figure together, and stays so when both get the same amount
 figure_posted : (table : List ℤ) (b f : ℕ → ℤ) (k k' : ℕ) (x x' : ℤ) → HasEntry table k → ((n : ℕ) → position table n ≡ b n +ℤ f n) → k ≡ k' → x ≡ x' → (n : ℕ) → position (posted table k x) n ≡ b n +ℤ plus f k' x' n
 figure_posted table b f k k' x x' e g p q n =
-    ⊎_elim
+    either (eqb n k')
     (λ t.
     let s : n ≡ k = eqb-true n k' t ∙ sym p in
     rw t (rw s (position_posted_same table k x e ∙ rw (g k, q) (+ℤ_assoc (b k) (f k) x'))))
     (λ t.
     let i = eqb-false n k' t in
     rw t (position_posted_other table k n x (λ s. i (s ∙ p)) ∙ g n))
-    (true_or_false (eqb n k'))
 
 module _ (base l : Ledger) (j : Journal) (date : ℕ) (g : Agrees base l j) (z : Sizes l) (n : ℕ) (h : CollectionThere l n) where
   -- the collection as the journal has it noted
@@ -146,7 +135,7 @@ module _ (base l : Ledger) (j : Journal) (date : ℕ) (g : Agrees base l j) (z :
         banks = g.banks;
         mandates = g.mandates;
         collections =
-            same_kept Reject x j.collections (same_treated Reject x x.settled noted_there.same (λ i e. absurd (rejected_not i e)))
+            same_kept Reject x j.collections (same_treated Reject x x.settled noted_there.same (λ i e. absurd cc))
             noted_there.is (λ i ne. refl);
         figures = g.figures;
       })
@@ -175,7 +164,7 @@ module _ (base l : Ledger) (j : Journal) (date : ℕ) (g : Agrees base l j) (z :
           banks = g.banks;
           mandates = g.mandates;
           collections =
-              same_kept (Undo way) x j.collections (same_treated (Undo way) x x.settled s (λ i e. absurd (undone_not i e)))
+              same_kept (Undo way) x j.collections (same_treated (Undo way) x x.settled s (λ i e. absurd cc))
               noted_there.is (λ i ne. refl);
           figures = figures_after _ _ x s undo_postings (Undo way);
         })

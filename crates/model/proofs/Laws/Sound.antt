@@ -1,14 +1,11 @@
 -- What an event within its limits asks for is within limits too, and what its acceptance says.
--- To cite: `sound_event` (from `checked`), `passes_first`, `Passed` with `passed` (from `ruled`). Assumes nothing.
-use Rattle.std.proofs.Common.{Err, Ok, Result}
+-- To cite: `sound_event` (from `checked`), `Passed` with `passed` (from `ruled`). Assumes nothing.
+use Rattle.std.proofs.Common.{Ok}
 use mathlib.Core.Path.{◌≡◌, refl}
-use mathlib.Core.Bool.{Bool, true, false, cond, ◌&&◌}
+use mathlib.Core.Bool.{true}
 use mathlib.Core.Logic.{⊎_elim}
-use mathlib.Core.List.{List, [], ◌∷◌}
-use Prim.Native.Nat.{ℕ, zero, suc, ◌≤◌}
-use native.Mathlib.Omega.{arith}
-use Rattle.common.proofs.Tests.{never, and_halves}
-use Rattle.common.specs.Checks.{Check, judged}
+use Prim.Native.Nat.{ℕ, ◌≤◌}
+use Rattle.common.proofs.Checks.{judged_passes}
 use Rattle.calendar.specs.Gregorian.{in_range}
 use Rattle.events.specs.declared.Event.{Event}
 use Rattle.events.specs.Limits.{checked}
@@ -30,7 +27,6 @@ use Rattle.model.specs.declared.Treatment.TheVariants.{Settle, Reject, Undo}
 use Rattle.model.specs.declared.Way.TheVariants.{ByReturn, ByRefund, ByReversal}
 use Rattle.model.proofs.Laws.Actions.{action_creditor, action_mandate, action_amend, action_cancel, action_collect, action_settle, action_reject, action_return, action_refund, action_reversal}
 use Rattle.model.specs.Checks.{in_order, on_business_day, is_new, is_there, has_row, is_live, in_sequence, on_time, not_lapsed, in_state, not_before_due, by_last_day, checks, ruled}
-use Rattle.refusals.specs.declared.Refusal.{Refusal}
 
 -- ---- an action within its limits
 
@@ -157,34 +153,6 @@ sound_event e h = let m = checked_facts e h in (m.date, sound_action e m)
 
 -- ---- what acceptance says: every test passed
 
--- the checks of a list that refuse where they fail
-abbrev pub refuses : Result Unit Refusal → Bool
-refuses (Ok tt) = false
-refuses (Err r) = true
-
-abbrev all_refuse : List (Check (Result Unit Refusal)) → Bool
-all_refuse [] = true
-all_refuse (c ∷ cs) = refuses c.failing && all_refuse cs
-
--- the k-th test of a list
-abbrev test_at : List (Check (Result Unit Refusal)) → ℕ → Bool
-test_at [] k = true
-test_at (c ∷ cs) zero = c.passes
-test_at (c ∷ cs) (suc k) = test_at cs k
-
-pub passes_first : (b : Bool) (f rest : Result Unit Refusal) → refuses f ≡ true → cond b rest f ≡ (Ok tt) → (b ≡ true) × (rest ≡ (Ok tt))
-passes_first true f rest r e = (refl, e)
-passes_first false (Ok tt) rest r e = absurd (never r refl)
-passes_first false (Err x) rest r e = let z : ◌≡◌ {A = ℕ} 0 1 = cc in absurd (omega arith)
-
-all_passed : (cs : List (Check (Result Unit Refusal))) → all_refuse cs ≡ true → judged cs (Ok tt) ≡ (Ok tt) → (k : ℕ) → test_at cs k ≡ true
-all_passed [] r e k = refl
-all_passed (c ∷ cs) r e zero =
-    (passes_first c.passes c.failing (judged cs (Ok tt)) (and_halves (refuses c.failing) r).0 e).0
-all_passed (c ∷ cs) r e (suc k) =
-    let h = and_halves (refuses c.failing) r in
-    all_passed cs h.1 (passes_first c.passes c.failing (judged cs (Ok tt)) h.0 e).1 k
-
 pub record Passed (l : Ledger) (date : ℕ) (a : Action) : Type 0 where
   pub order : in_order l date ≡ true
   pub day : on_business_day a date ≡ true
@@ -202,7 +170,7 @@ pub record Passed (l : Ledger) (date : ℕ) (a : Action) : Type 0 where
 pub passed : (l : Ledger) (date : ℕ) (a : Action) → ruled l date a ≡ (Ok tt) → Passed l date a
 unfolding ruled
 passed l date a e =
-    let at = all_passed (checks l date a) refl e in
+    let at = judged_passes (checks l date a) refl e in
     record {
       order = at 0;
       day = at 1;

@@ -3,8 +3,7 @@
 -- Assumes nothing.
 use Rattle.std.proofs.Common.{None, Ok, Option, ℕ}
 use mathlib.Core.Path.{◌≡◌, refl, sym, ap, subst, ◌∙◌}
-use mathlib.Core.Bool.{true, false, not, ◌&&◌}
-use mathlib.Core.Logic.{⊎_elim}
+use mathlib.Core.Bool.{true, not, ◌&&◌}
 use mathlib.Core.List.{List}
 use Prim.Native.Nat.{ℕ, zero, suc, ◌-◌, ◌≤◌}
 use native.Mathlib.Omega.{arith}
@@ -12,7 +11,7 @@ use lib.Dec.{eqb, leb}
 use lib.IntN.{ℤ, pos, ◌+ℤ◌, +ℤ_idl}
 use lib.ListN.{length, get_or, replicate}
 use borrow.Author.Tests.{le-leb, eqb-true}
-use Rattle.common.proofs.Tests.{never, true_or_false, and_true}
+use Rattle.common.proofs.Tests.{either, never, same_arms, and_true}
 use Rattle.calendar.specs.Gregorian.{in_range}
 use Rattle.calendar.specs.Periods.{is_after}
 use Rattle.calendar.proofs.Laws.Promises.{kept_due_lem}
@@ -50,7 +49,7 @@ use Rattle.model.proofs.Laws.Effects.{of_known_lem, mandate_there_lem, collectio
 use Rattle.model.proofs.Laws.Accepted.{was_accepted, undo_facts}
 use Rattle.model.proofs.Laws.Wordings.{kinds_of}
 use Rattle.model.proofs.Laws.Wordings.Sort.{Ends, Undos, Settles}
-use Rattle.model.proofs.Laws.Agree.{same_arms, unmoved, noted_mandate, noted_collection_lem}
+use Rattle.model.proofs.Laws.Agree.{unmoved, noted_mandate, noted_collection_lem}
 use Rattle.model.proofs.Laws.AnyStart.{agrees_run}
 use Rattle.model.proofs.Laws.Counts.{count_in, count_known, Counted, count_le, counted_run}
 use Rattle.model.proofs.Laws.Bounds.{Balanced}
@@ -81,13 +80,11 @@ stands_live_lem Cancelled e = absurd (never e refl)
 -- one of three numbers
 one_of : (P : Type 0) (n : ℕ) → among undoings n ≡ true → (n ≡ 8 → P) → (n ≡ 9 → P) → (n ≡ 10 → P) → P
 one_of P n h a b c =
-    ⊎_elim (λ p. a (sym (eqb-true 8 n p)))
-    (λ (p : eqb 8 n ≡ false).
-    ⊎_elim (λ q. b (sym (eqb-true 9 n q)))
-    (λ (q : eqb 9 n ≡ false).
-    ⊎_elim (λ r. c (sym (eqb-true 10 n r))) (λ (r : eqb 10 n ≡ false). absurd (never h (rw (p, q, r)))) (true_or_false (eqb 10 n)))
-    (true_or_false (eqb 9 n)))
-    (true_or_false (eqb 8 n))
+    either (eqb 8 n) (λ p. a (sym (eqb-true 8 n p)))
+    (λ p.
+    either (eqb 9 n) (λ q. b (sym (eqb-true 9 n q)))
+    (λ q.
+    either (eqb 10 n) (λ r. c (sym (eqb-true 10 n r))) (λ r. absurd (never h (rw (p, q, r))))))
 
 module _ (base l : Ledger) (h : List Entry) (s : Reached base l h) (e : Event) where
   undone_by : (way : Way) → ((d : ℕ) → in_range d ≡ true → last_day way d ≡ last_day_from e.kind e.code d) → Passed l e.date (Treat e.a (Undo way)) → UndoneInTime h e

@@ -4,14 +4,14 @@
 use Rattle.std.proofs.Common.{None, Option, Some, ℕ}
 use mathlib.Core.Path.{◌≡◌, refl, sym, ap, ◌∙◌}
 use mathlib.Core.Bool.{Bool, false, cond}
-use mathlib.Core.Logic.{⊎_elim, ◌≢◌}
+use mathlib.Core.Logic.{◌≢◌}
 use mathlib.Core.List.{List}
 use Prim.Native.Nat.{ℕ, ◌+◌, ◌<◌}
 use native.Mathlib.Omega.{arith}
 use lib.Dec.{eqb}
 use lib.ListN.{length, get_or}
 use borrow.Author.Tests.{eqb-true, eqb-false, eq-eqb, ne_eqb}
-use Rattle.common.proofs.Tests.{true_or_false}
+use Rattle.common.proofs.Tests.{either}
 use Rattle.tables.specs.Limits.{stride}
 use Rattle.tables.specs.Ledger.{Ledger}
 use Rattle.tables.specs.Lookup.{lookup, number_at}
@@ -37,7 +37,7 @@ module _ {A : Type 0} (at : List ℕ → ℕ → A) (cells : List ℕ) (used n :
     pub lent_row : row < rows cells
 
   held_case : (f : Option ℕ) → lookup cells used n ≡ f → (a : A) → in_row f (at cells) ≡ known a → Held a
-  held_case None e a k = let z : ◌≡◌ {A = ℕ} 0 1 = cc in absurd (omega arith)
+  held_case None e a k = absurd cc
   held_case (Some row) e a k =
       let low = (lookup_at cells used n row e).existing_row in
       record {
@@ -53,7 +53,7 @@ module _ {A : Type 0} (at : List ℕ → ℕ → A) (cells : List ℕ) (used n :
 
   nothing_case : (f : Option ℕ) → in_row f (at cells) ≡ unknown → f ≡ None
   nothing_case None e = refl
-  nothing_case (Some row) e = let z : ◌≡◌ {A = ℕ} 0 1 = cc in absurd (omega arith)
+  nothing_case (Some row) e = absurd cc
 
   pub nothing_held : in_row (lookup cells used n) (at cells) ≡ unknown → lookup cells used n ≡ None
   nothing_held e = nothing_case (lookup cells used n) e
@@ -72,7 +72,7 @@ module _ {A : Type 0} (at : List ℕ → ℕ → A) (cells : List ℕ) (used n :
         let low = lookup_at cells used n row e in
         let lent : row < rows cells = omega (arith, low.existing_row, existing_rows cells used) in
         let same-lookup = lookup_put_kept cells row fields len lent (number ∙ sym low.number_row) used k in
-        ⊎_elim
+        either (eqb k n)
         (λ q.
         let p = eqb-true k n q in
         rw (same-lookup, p, e, eq-eqb n n refl) (ap known same))
@@ -81,7 +81,6 @@ module _ {A : Type 0} (at : List ℕ → ℕ → A) (cells : List ℕ) (used n :
         rw (same-lookup, q)
         (elsewhere k (lookup cells used k)
         (λ r f i. p (sym (lookup_at cells used k r f).number_row ∙ ap (number_at cells) i ∙ low.number_row))))
-        (true_or_false (eqb k n))
 
   -- after the next row is written
   module _ (fields : List ℕ) (len : length fields ≡ stride) (number : get_or fields 0 0 ≡ n) (a : A)
@@ -96,7 +95,7 @@ module _ {A : Type 0} (at : List ℕ → ℕ → A) (cells : List ℕ) (used n :
     next : used < rows cells → lookup cells used n ≡ None → (k : ℕ) → in_row (lookup (put_row stride cells used fields) (used + 1) k) (at (put_row stride cells used fields)) ≡ cond (eqb k n) (known a) (in_row (lookup cells used k) (at cells))
     next lent e k =
         let there = lookup_put_next cells used fields len lent k in
-        ⊎_elim
+        either (eqb k n)
         (λ q.
         let p = eqb-true k n q in
         rw (there, p, e, number, eq-eqb n n refl) (ap known same))
@@ -104,7 +103,6 @@ module _ {A : Type 0} (at : List ℕ → ℕ → A) (cells : List ℕ) (used n :
         rw (there, number)
         (next_case k (lookup cells used k) refl q
         ∙ sym (ap (λ (b : Bool). cond b (known a) (in_row (lookup cells used k) (at cells))) q)))
-        (true_or_false (eqb k n))
 
 -- ---- the two tables of a ledger
 
@@ -113,17 +111,9 @@ module _ (l : Ledger) (n : ℕ) where
   unfolding mandate_of
   mandate_row m e = held mandate_at l.mandates l.mandates_used n m e
 
-  pub no_mandate_row : mandate_of l n ≡ unknown → lookup l.mandates l.mandates_used n ≡ None
-  unfolding mandate_of
-  no_mandate_row e = nothing_held mandate_at l.mandates l.mandates_used n e
-
   pub collection_row : (c : Collection) → collection_of l n ≡ known c → Held collection_at l.collections l.collections_used n c
   unfolding collection_of
   collection_row c e = held collection_at l.collections l.collections_used n c e
-
-  pub no_collection_row : collection_of l n ≡ unknown → lookup l.collections l.collections_used n ≡ None
-  unfolding collection_of
-  no_collection_row e = nothing_held collection_at l.collections l.collections_used n e
 
 -- the row that was found is written anew, with its number
 module _ (l : Ledger) (row : ℕ) where

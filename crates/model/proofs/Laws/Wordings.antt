@@ -3,14 +3,13 @@
 -- promises count events by their kinds, `counted_action`. The invariant keeps these and cites both laws once. Assumes nothing.
 use Rattle.std.proofs.Common.{None, Ok, Option, Some, ℕ}
 use mathlib.Core.Path.{◌≡◌, refl, sym, ap, ◌∙◌}
-use mathlib.Core.Bool.{Bool, true, false, cond, ◌&&◌}
+use mathlib.Core.Bool.{Bool, true, false, cond, ◌&&◌, and-false}
 use mathlib.Core.List.{List}
-use mathlib.Core.Logic.{⊎_elim}
 use Prim.Native.Nat.{ℕ, zero, suc, ◌≤◌}
 use native.Mathlib.Omega.{arith}
 use lib.Dec.{eqb}
 use lib.IntN.{pos, neg_ℤ-neg_ℤ}
-use Rattle.common.proofs.Tests.{true_or_false}
+use Rattle.common.proofs.Tests.{either}
 use Rattle.calendar.specs.Target.{first_business_day}
 use Rattle.positions.specs.Postings.{settlement}
 use Rattle.positions.specs.declared.Postings.{Postings}
@@ -106,7 +105,7 @@ module _ (j : Journal) (e : Event) where
   amended_same : (m : NotedMandate) → amended e m ≡ change_of (cond (eqb e.code 0) (NewBank e.c) (NewCreditor e.a)) m
   unfolding amended change_of
   amended_same m =
-      ⊎_elim (λ (b : eqb e.code 0 ≡ true). rw b) (λ (b : eqb e.code 0 ≡ false). rw b) (true_or_false (eqb e.code 0))
+      either (eqb e.code 0) (λ b. rw b) (λ b. rw b)
 
   collected_same : e.code ≤ 3 → (m : NotedMandate) → collected_on e m ≡ present_of (presentation e) m
   unfolding collected_on present_of kept_due
@@ -251,10 +250,6 @@ treats sort c (ChangeMandate n x) = false
 treats sort c (Collect p) = false
 treats sort c (Treat n t) = eqb n c && sorted sort t
 
-and_false : (b : Bool) → b && false ≡ false
-and_false true = refl
-and_false false = refl
-
 module _ (sort : Sort) (c : ℕ) (e : Event) where
   -- the test by the kind of the event
   abbrev named : ℕ → Bool
@@ -262,7 +257,7 @@ module _ (sort : Sort) (c : ℕ) (e : Event) where
 
   not_counted : (kind : ℕ) → e.kind ≡ kind → ((s : Sort) → among (kinds_of s) kind ≡ false) → treats sort c (action_of e) ≡ false → named e.kind ≡ treats sort c (action_of e)
   not_counted kind h none t =
-      ap named h ∙ ap (λ (b : Bool). eqb e.a c && b) (none sort) ∙ and_false (eqb e.a c) ∙ sym t
+      ap named h ∙ ap (λ (b : Bool). eqb e.a c && b) (none sort) ∙ and-false (eqb e.a c) ∙ sym t
 
   counted : (kind : ℕ) (t : Treatment) → e.kind ≡ kind → ((s : Sort) → among (kinds_of s) kind ≡ sorted s t) → action_of e ≡ Treat e.a t → named e.kind ≡ treats sort c (action_of e)
   counted kind t h same a =

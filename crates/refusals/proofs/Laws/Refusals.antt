@@ -5,40 +5,27 @@ use Rattle.refusals.specs.Refusals.{number_of}
 use Rattle.refusals.specs.declared.Refusal.{Refusal}
 use Rattle.refusals.specs.declared.Refusal.TheVariants.{BadLine, UnfitMemory, UnknownKind, BadDate, BadField, BeforeLatest, NotBusinessDay, AlreadyExists, DoesNotExist, NoRowLeft, NotLive, WrongSequence, BadTiming, Lapsed, WrongState, BeforeDue, AfterLastDay}
 
+number_range : (r : Refusal) → (1 ≤ number_of r) × (number_of r ≤ 17)
+number_range BadLine = (lit≤ tt, lit≤ tt)
+number_range UnfitMemory = (lit≤ tt, lit≤ tt)
+number_range UnknownKind = (lit≤ tt, lit≤ tt)
+number_range BadDate = (lit≤ tt, lit≤ tt)
+number_range BadField = (lit≤ tt, lit≤ tt)
+number_range BeforeLatest = (lit≤ tt, lit≤ tt)
+number_range NotBusinessDay = (lit≤ tt, lit≤ tt)
+number_range AlreadyExists = (lit≤ tt, lit≤ tt)
+number_range DoesNotExist = (lit≤ tt, lit≤ tt)
+number_range NoRowLeft = (lit≤ tt, lit≤ tt)
+number_range NotLive = (lit≤ tt, lit≤ tt)
+number_range WrongSequence = (lit≤ tt, lit≤ tt)
+number_range BadTiming = (lit≤ tt, lit≤ tt)
+number_range Lapsed = (lit≤ tt, lit≤ tt)
+number_range WrongState = (lit≤ tt, lit≤ tt)
+number_range BeforeDue = (lit≤ tt, lit≤ tt)
+number_range AfterLastDay = (lit≤ tt, lit≤ tt)
+
 pub number_of_pos : (r : Refusal) → 1 ≤ number_of r
-number_of_pos BadLine = lit≤ tt
-number_of_pos UnfitMemory = lit≤ tt
-number_of_pos UnknownKind = lit≤ tt
-number_of_pos BadDate = lit≤ tt
-number_of_pos BadField = lit≤ tt
-number_of_pos BeforeLatest = lit≤ tt
-number_of_pos NotBusinessDay = lit≤ tt
-number_of_pos AlreadyExists = lit≤ tt
-number_of_pos DoesNotExist = lit≤ tt
-number_of_pos NoRowLeft = lit≤ tt
-number_of_pos NotLive = lit≤ tt
-number_of_pos WrongSequence = lit≤ tt
-number_of_pos BadTiming = lit≤ tt
-number_of_pos Lapsed = lit≤ tt
-number_of_pos WrongState = lit≤ tt
-number_of_pos BeforeDue = lit≤ tt
-number_of_pos AfterLastDay = lit≤ tt
+number_of_pos r = (number_range r).0
 
 pub number_of_most : (r : Refusal) → number_of r ≤ 17
-number_of_most BadLine = lit≤ tt
-number_of_most UnfitMemory = lit≤ tt
-number_of_most UnknownKind = lit≤ tt
-number_of_most BadDate = lit≤ tt
-number_of_most BadField = lit≤ tt
-number_of_most BeforeLatest = lit≤ tt
-number_of_most NotBusinessDay = lit≤ tt
-number_of_most AlreadyExists = lit≤ tt
-number_of_most DoesNotExist = lit≤ tt
-number_of_most NoRowLeft = lit≤ tt
-number_of_most NotLive = lit≤ tt
-number_of_most WrongSequence = lit≤ tt
-number_of_most BadTiming = lit≤ tt
-number_of_most Lapsed = lit≤ tt
-number_of_most WrongState = lit≤ tt
-number_of_most BeforeDue = lit≤ tt
-number_of_most AfterLastDay = lit≤ tt
+number_of_most r = (number_range r).1

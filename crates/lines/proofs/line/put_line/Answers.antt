@@ -1,3 +1,4 @@
+-- What the nine calls wrote is listed, since `grind` and `cc` stop at their bounds before they have joined it.
 use Rattle.lines.proofs.Laws.Line.{line_of_written}
 use Rattle.lines.proofs.line.put_line.Goals as goal
 
