@@ -3,7 +3,7 @@ use Rattle.std.specs.Prelude.{◌≡◌, cond, ◌&&◌, ℕ, pos, ℤ, Result}
 use Rattle.events.specs.declared.Event.{Event}
 use Rattle.tables.specs.Ledger.{Ledger}
 use Rattle.fitness.specs.Fitness.{fit}
-use Rattle.model.specs.Step.{answer_number, answer, event_number, after, in_query, figure_of, query, query_number, answered}
+use Rattle.model.specs.Step.{answer_number, answer, event_number, after, in_query, figure_of, query, answered}
 use Rattle.refusals.specs.declared.Refusal.{Refusal}
 
 -- the event given to the ledger l: the answer, and the ledger l' after it
@@ -15,5 +15,5 @@ pub record Taken (l : Ledger) (e : Event) (r : Result Unit Refusal) (l' : Ledger
 -- the query given to the ledger l: the answer, its number and the figure
 pub record Queried (l : Ledger) (kind number : ℕ) (r : Result ℤ Refusal) : Type 0 where
   pub answer_is : r ≡ query l kind number
-  pub number_is : query_number r ≡ cond (fit l) (cond (in_query kind number) 0 5) 2
+  pub number_is : answer_number r ≡ cond (fit l) (cond (in_query kind number) 0 5) 2
   pub figure_is : answered r ≡ cond (fit l && in_query kind number) (figure_of l kind number) (pos 0)

@@ -16,7 +16,8 @@ use tables::BookMut;
 use tables::lookup::find_since;
 use treatments::treat::treat;
 
-// The row of the mandate that an event names, looked for from a row on.
+// The row of the mandate that an event names, looked for from a row on. What it shares with the collection's is `find_since`: one form
+// for both would take table, used rows, number and the test of the kind, and be as long as the two.
 pub fn find_mandate(book: &BookMut, e: Event, since: usize) -> Option<usize>
     ensures { result ≡ cond (names_mandate e.kind) (lookup_since book.now.mandates.now book.now.header.mandates e.mandate since) None }
 {

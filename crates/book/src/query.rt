@@ -36,6 +36,7 @@ fn figure(book: &BookRef, kind: u64, number: u64) -> i64
 }
 
 // The position of a creditor (kind 1), debtor (2) or bank (3), or the total compensation (4, number 0), in cents.
+#[tactic(auto, using(crate::proofs::Laws::Queries::queried_unfit, crate::proofs::Laws::Queries::queried_outside, crate::proofs::Laws::Queries::queried_figure))]
 pub fn position(book: &BookRef, kind: u64, number: u64) -> Result<i64, Refusal>
     ensures { Queried (ledger_of book.now) kind number result }
 {

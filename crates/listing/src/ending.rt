@@ -13,6 +13,7 @@ pub struct Ending {
 
 // Answers a partial line where the input ends, by the lines answered so far and the number of its bytes. A buffer
 // without room for an answer is refused, and nothing is written.
+#[tactic(auto, using(crate::proofs::Laws::Ending::end_refused, crate::proofs::Laws::Ending::end_none))]
 pub fn end_text(lines: u64, partial: usize, out: &mut [u8]) -> Result<Ending, Refusal>
     ensures { EndTaken lines partial out.old result out.new }
 {

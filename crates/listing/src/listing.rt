@@ -16,7 +16,9 @@ use tables::BookRef;
 // The bytes that a listing takes at most: a line for each party and bank, and one for the total.
 const ROOM: usize = (CREDITORS + DEBTORS + BANKS + 1) as usize * POSITION;
 
-// Writes the line of a position that is not 0, and gives the place behind it.
+// Writes the line of a position that is not 0, and gives the place behind it. The kind is a number, as a position line and a query have
+// it: any may be asked for.
+#[tactic(auto, using(crate::proofs::Laws::Listing::zero_written, crate::proofs::Laws::Listing::line_written, crate::proofs::Laws::Listing::line_long, report::proofs::Laws::Layout::position_fits_facts))]
 fn list_one(out: &mut [u8], at: usize, kind: u64, number: u64, cents: i64) -> usize
     requires { position_fits at kind number cents out.old ≡ true }
     ensures place { result ≡ at + length (position_output kind number cents) }
@@ -30,6 +32,7 @@ fn list_one(out: &mut [u8], at: usize, kind: u64, number: u64, cents: i64) -> us
 }
 
 // Writes the positions of a kind, from number 1 to the last of its table, and gives the place behind them.
+#[tactic(auto, using(crate::proofs::Laws::Listing::table_fits))]
 fn list_kind(out: &mut [u8], at: usize, kind: u64, positions: &[i64]) -> usize
     requires { (at + length positions.now * position_length ≤ length out.old) × (kind ≤ widest_kind) × (length positions.now ≤ last_number) × InLimit position_limit positions.now }
     ensures place { result ≡ at + length (table_output kind positions.now (length positions.now)) }
@@ -44,6 +47,7 @@ fn list_kind(out: &mut [u8], at: usize, kind: u64, positions: &[i64]) -> usize
 
 // Writes the whole listing and gives its bytes. Memory that is not fit and a buffer without room for the longest listing
 // are refused, and nothing is written.
+#[tactic(auto, using(crate::proofs::Laws::Listing::listed_when, crate::proofs::Laws::Listing::listed_refused))]
 pub fn list_positions(book: &BookRef, out: &mut [u8]) -> Result<usize, Refusal>
     ensures { Listed (ledger_of book.now) out.old result out.new }
 {

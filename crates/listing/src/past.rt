@@ -34,6 +34,7 @@ fn line_count(text: &[u8]) -> u64
 }
 
 // How many lines of a text are not answered, where so many were before. A text of few bytes is not looked at.
+#[tactic(auto, using(crate::proofs::Laws::Past::few_bytes))]
 pub fn lines_past(lines: u64, text: &[u8]) -> u64
     ensures { result ≡ lines_past lines text.now }
 {

@@ -1,50 +1,33 @@
 -- A text of events: the call for a piece of the program's input, against the run of crates/run/specs/Run.
 -- Assumes nothing.
-use Rattle.std.specs.Prelude.{◌≡◌, Bool, cond, ◌&&◌, List, [], ℕ, ◌+◌, ◌*◌, ◌/◌, ◌≤◌, leb, length, take, drop, Option, Some, None, Result, Ok, Err}
+use Rattle.std.specs.Prelude.{◌≡◌, Bool, true, cond, ◌&&◌, List, [], ℕ, ◌+◌, ◌/◌, ◌≤◌, leb, length, take, drop, Result, Ok, Err}
 use Rattle.refusals.specs.declared.Refusal.{Refusal}
 use Rattle.refusals.specs.declared.Refusal.TheVariants.{UnfitMemory}
-use Rattle.events.specs.declared.Event.{Event}
-use Rattle.events.specs.Limits.{checked}
 use Rattle.digits.specs.Field.{pasted}
 use Rattle.lines.specs.Line.{read_line}
 use Rattle.tables.specs.Ledger.{Ledger}
 use Rattle.model.specs.Step.{answer_number}
+use Rattle.index.specs.declared.Index.{Index}
 use Rattle.index.specs.Index.{Indexed}
 use Rattle.model.specs.Bounds.{Safe}
 use Rattle.report.specs.Layout.{answer_length}
 use Rattle.run.specs.Run.{Run, fit_number, run_at, clipped, answer_to, after_line, ended, line_output, take_text, text_output}
-use Rattle.text.specs.declared.text.Indexes.{Indexes}
 use Rattle.text.specs.declared.text.Progress.{Progress}
 use Rattle.text.specs.declared.text.Lines.{Lines}
 use Rattle.text.specs.declared.text.Piece.{Piece}
 
 -- ---- a line
 
--- what was tested and made once: the memory is safe, and each table has its index
-pub record Prepared (made : Indexes) (l : Ledger) : Type 0 where
-  pub safe : Safe l
-  pub mandates : Indexed made.mandates.now l.mandates l.mandates_used
-  pub collections : Indexed made.collections.now l.collections l.collections_used
-
--- nothing is known of memory that was not found safe
-abbrev pub WhenKnown : Option Indexes → Ledger → Type 0
-WhenKnown None l = Unit
-WhenKnown (Some made) l = Prepared made l
-
--- an event that was read, given to the ledger l
-pub record Sound (known : Option Indexes) (l : Ledger) (e : Event) : Type 0 where
-  pub tested : WhenKnown known l
-  pub is_within : checked e ≡ (Ok tt)
+-- what was tested and made once: whether the memory is safe, and each table's index
+pub record Known (safe : Bool) (mandate_index collection_index : Index) (l : Ledger) : Type 0 where
+  pub when_safe : safe ≡ true → Safe l
+  pub mandates : Indexed mandate_index l.mandates l.mandates_used
+  pub collections : Indexed collection_index l.collections l.collections_used
 
 -- the line given to the ledger l: the answer, and the ledger l' after it
 pub record LineTaken (l : Ledger) (line : List ℕ) (r : Result Unit Refusal) (l' : Ledger) : Type 0 where
   pub answer_is : r ≡ answer_to l (read_line line)
   pub after_is : l' ≡ after_line l (read_line line)
-
--- the memory was tested, and the buffer has room for an answer
-pub record AnswerRoom (known : Option Indexes) (l : Ledger) (written : ℕ) (out : List ℕ) : Type 0 where
-  pub tested : WhenKnown known l
-  pub room : written + answer_length ≤ length out
 
 -- the line answered behind what was written before
 pub record LineAnswered (l : Ledger) (p : Progress) (line out : List ℕ) (r : Progress) (l' : Ledger) (out' : List ℕ) : Type 0 where
@@ -53,10 +36,6 @@ pub record LineAnswered (l : Ledger) (p : Progress) (line out : List ℕ) (r : P
   pub written : r.written ≡ p.written + length (line_output (run_at l p.lines []) line)
 
 -- ---- the lines of a text
-
-pub record TextRoom (known : Option Indexes) (l : Ledger) (text out : List ℕ) : Type 0 where
-  pub tested : WhenKnown known l
-  pub room : answer_length * length text ≤ length out
 
 -- the lines that have ended are answered, and the rest begins at a place
 pub record LinesAnswered (s : Run) (text out : List ℕ) (r : Lines) (l' : Ledger) (out' : List ℕ) : Type 0 where

@@ -1,5 +1,5 @@
 // A text of events: the lines of the program's input, answered one after the other: specs/Text.
-ghost use Rattle.std.specs.Prelude.{◌≡◌, [], ◌&&◌, ◌/◌, ◌≤◌, min, leb, length, take, drop};
+ghost use Rattle.std.specs.Prelude.{◌≡◌, [], ◌+◌, ◌*◌, Ok, ◌&&◌, ◌/◌, ◌≤◌, min, leb, length, take, drop};
 ghost use Rattle.digits.specs.Field.{pasted};
 ghost use Rattle.tables.specs.Ledger.{ledger_in, SameLoans};
 ghost use Rattle.tables.specs.Lookup.{MayStart};
@@ -7,7 +7,8 @@ ghost use Rattle.fitness.specs.Fitness.{fit};
 ghost use Rattle.report.specs.Layout.{answer_length};
 ghost use Rattle.run.specs.Run.{run_at, clipped_length, clipped};
 ghost use Rattle.book.specs.Events.{Taken};
-ghost use Rattle.text.specs.Text.{WhenKnown, Sound, LineTaken, AnswerRoom, LineAnswered, TextRoom, LinesAnswered, PieceTaken};
+ghost use Rattle.events.specs.Limits.{checked};
+ghost use Rattle.text.specs.Text.{Known, LineTaken, LineAnswered, LinesAnswered, PieceTaken};
 
 use book::acting::{act, find_collection, find_mandate};
 use events::Event;
@@ -22,13 +23,6 @@ use tables::BookMut;
 
 // A partial line is clipped to one byte more than a sound line has.
 const CLIPPED: usize = COLUMNS + 2;
-
-// The index of each table, made once for a piece on memory that is safe.
-#[derive(Clone, Copy)]
-struct Indexes<'a> {
-    mandates: &'a Index,
-    collections: &'a Index,
-}
 
 // The lines answered and the bytes written so far.
 #[derive(Clone, Copy)]
@@ -53,112 +47,118 @@ pub struct Piece {
     pub written: usize,
 }
 
-// A row from which the mandate that an event names may be looked for: by the index where there is one, else the first row.
-fn mandate_since(known: Option<Indexes>, book: &BookMut, e: Event) -> usize
-    requires { WhenKnown known (ledger_in book.now) }
-    ensures { MayStart book.now.mandates.now book.now.header.mandates e.mandate result }
-{
-    match known {
-        Some(made) if e.kind <= 5 => made.mandates.first_row(book.mandates, e.mandate),
-        _ => 0,
-    }
+// The lent tables, and what was tested and made once for a piece: whether they are safe, and an index of each, which holds of unsafe ones
+// too. The fact stands between bars since there may be more than one table of before that an index was made of.
+#[derive(Drop)]
+struct KnownBook<'b, 'a, 'i> {
+    book: &'b mut BookMut<'a>,
+    safe: bool,
+    mandates: &'i Index,
+    collections: &'i Index,
+    ghost known: { ∥ Known safe mandates.now collections.now (ledger_in book.now) ∥₁ },
 }
 
-// The same for the collection that it names.
-fn collection_since(known: Option<Indexes>, book: &BookMut, e: Event) -> usize
-    requires { WhenKnown known (ledger_in book.now) }
-    ensures { MayStart book.now.collections.now book.now.header.collections e.a result }
-{
-    match known {
-        Some(made) if 5 <= e.kind => made.collections.first_row(book.collections, e.a),
-        _ => 0,
+impl KnownBook<'_, '_, '_> {
+    // A row from which the mandate that an event names may be looked for. The index is not followed for an event that names none.
+    // A form for both tables would take index, table, number and the test of the kind, and be as long as the two.
+    fn mandate_since(&self, e: Event) -> usize
+        ensures { MayStart self.now.book.now.mandates.now self.now.book.now.header.mandates e.mandate result }
+    {
+        if 5 < e.kind {
+            return 0;
+        }
+        self.mandates
+            .first_row(self.book.view().mandates, e.mandate)
     }
-}
 
-// Whether the memory is fit; memory that is known to be safe is not tested again.
-fn may_act(known: Option<Indexes>, book: &BookMut) -> bool
-    requires { WhenKnown known (ledger_in book.now) }
-    ensures { result ≡ fit (ledger_in book.now) }
-{
-    if known.is_some() {
-        return true;
+    // The same for the collection that it names.
+    fn collection_since(&self, e: Event) -> usize
+        ensures { MayStart self.now.book.now.collections.now self.now.book.now.header.collections e.a result }
+    {
+        if e.kind < 5 {
+            return 0;
+        }
+        self.collections
+            .first_row(self.book.view().collections, e.a)
     }
-    is_fit(&book.view())
-}
 
-// An event within its limits. What it names is looked for from where the indexes say.
-fn take_sound(known: Option<Indexes>, book: &mut BookMut, e: Event) -> Result<(), Refusal>
-    requires { Sound known (ledger_in book.old) e }
-    ensures loans { SameLoans book.old book.new }
-    ensures taken { Taken (ledger_in book.old) e result (ledger_in book.new) }
-{
-    if !may_act(known, book) {
-        return Err(Refusal::UnfitMemory);
+    // Whether the memory is fit; memory that is known to be safe is not tested again.
+    fn may_act(&self) -> bool
+        ensures { result ≡ fit (ledger_in self.now.book.now) }
+    {
+        if self.safe {
+            return true;
+        }
+        is_fit(&self.book.view())
     }
-    let mandate_since = mandate_since(known, book, e);
-    let collection_since = collection_since(known, book, e);
-    let mandate = find_mandate(book, e, mandate_since);
-    let collection = find_collection(book, e, collection_since);
-    act(book, e, mandate, collection)
-}
 
-// A line: what the reader refuses, or what the ledger answers.
-fn take_line(known: Option<Indexes>, book: &mut BookMut, line: &[u8]) -> Result<(), Refusal>
-    requires { WhenKnown known (ledger_in book.old) }
-    ensures loans { SameLoans book.old book.new }
-    ensures taken { LineTaken (ledger_in book.old) line.now result (ledger_in book.new) }
-{
-    let e = read(line)?;
-    take_sound(known, book, e)
-}
+    // An event within its limits. What it names is looked for from where the indexes say.
+    fn take_sound(&mut self, e: Event) -> Result<(), Refusal>
+        requires { checked e ≡ (Ok tt) }
+        ensures book { self.new.book.ghost_name ≡ self.old.book.ghost_name }
+        ensures loans { SameLoans self.old.book.now self.new.book.now }
+        ensures taken { Taken (ledger_in self.old.book.now) e result (ledger_in self.new.book.now) }
+    {
+        if !self.may_act() {
+            return Err(Refusal::UnfitMemory);
+        }
+        let mandate_since = self.mandate_since(e);
+        let collection_since = self.collection_since(e);
+        let mandate = find_mandate(self.book, e, mandate_since);
+        let collection = find_collection(self.book, e, collection_since);
+        act(self.book, e, mandate, collection)
+    }
 
-// Answers a line that has ended, unless 999,999 were answered before.
-fn end_line(
-    known: Option<Indexes>,
-    book: &mut BookMut,
-    p: Progress,
-    line: &[u8],
-    out: &mut [u8],
-) -> Progress
-    requires { AnswerRoom known (ledger_in book.old) p.written out.old }
-    ensures loans { SameLoans book.old book.new }
-    ensures answered { LineAnswered (ledger_in book.old) p line.now out.old result (ledger_in book.new) out.new }
-{
-    if p.lines >= LAST_NUMBER {
-        return p;
+    // A line: what the reader refuses, or what the ledger answers.
+    #[tactic(auto, using(lines::proofs::Laws::Promises::only_within_is_taken))]
+    fn take_line(&mut self, line: &[u8]) -> Result<(), Refusal>
+        ensures book { self.new.book.ghost_name ≡ self.old.book.ghost_name }
+        ensures loans { SameLoans self.old.book.now self.new.book.now }
+        ensures taken { LineTaken (ledger_in self.old.book.now) line.now result (ledger_in self.new.book.now) }
+    {
+        let e = read(line)?;
+        self.take_sound(e)
     }
-    let number = p.lines + 1;
-    let answer = take_line(known, book, line);
-    let _ = answer_line(out, p.written, number, answer_number(&answer));
-    Progress {
-        lines: number,
-        written: p.written + ANSWER,
-    }
-}
 
-// Answers the lines of a text that have ended.
-fn take_lines(
-    known: Option<Indexes>,
-    book: &mut BookMut,
-    lines: u64,
-    text: &[u8],
-    out: &mut [u8],
-) -> Lines
-    requires { TextRoom known (ledger_in book.old) text.now out.old }
-    ensures loans { SameLoans book.old book.new }
-    ensures answered { LinesAnswered (run_at (ledger_in book.old) lines []) text.now out.old result (ledger_in book.new) out.new }
-{
-    let mut p = Progress { lines, written: 0 };
-    let mut at = 0;
-    while let Some(end) = line_end(text, at) {
-        let next = end + 1;
-        p = end_line(known, book, p, &text[at..next], out);
-        at = next;
+    // Answers a line that has ended, unless 999,999 were answered before.
+    fn end_line(&mut self, p: Progress, line: &[u8], out: &mut [u8]) -> Progress
+        requires { p.written + answer_length ≤ length out.old }
+        ensures book { self.new.book.ghost_name ≡ self.old.book.ghost_name }
+        ensures loans { SameLoans self.old.book.now self.new.book.now }
+        ensures answered { LineAnswered (ledger_in self.old.book.now) p line.now out.old result (ledger_in self.new.book.now) out.new }
+    {
+        if p.lines >= LAST_NUMBER {
+            return p;
+        }
+        let number = p.lines + 1;
+        let answer = self.take_line(line);
+        let _ = answer_line(out, p.written, number, answer_number(&answer));
+        Progress {
+            lines: number,
+            written: p.written + ANSWER,
+        }
     }
-    Lines {
-        lines: p.lines,
-        written: p.written,
-        at,
+
+    // Answers the lines of a text that have ended.
+    #[tactic(auto, using(crate::proofs::Laws::Text::end_inside, crate::proofs::Laws::Text::end_onward))]
+    fn take_lines(&mut self, lines: u64, text: &[u8], out: &mut [u8]) -> Lines
+        requires { answer_length * length text.now ≤ length out.old }
+        ensures book { self.new.book.ghost_name ≡ self.old.book.ghost_name }
+        ensures loans { SameLoans self.old.book.now self.new.book.now }
+        ensures answered { LinesAnswered (run_at (ledger_in self.old.book.now) lines []) text.now out.old result (ledger_in self.new.book.now) out.new }
+    {
+        let mut p = Progress { lines, written: 0 };
+        let mut at = 0;
+        while let Some(end) = line_end(text, at) {
+            let next = end + 1;
+            p = self.end_line(p, &text[at..next], out);
+            at = next;
+        }
+        Lines {
+            lines: p.lines,
+            written: p.written,
+            at,
+        }
     }
 }
 
@@ -170,6 +170,7 @@ fn clip(long: usize) -> usize
 }
 
 // Puts the partial line that begins at a place, clipped, to the front of the text, and gives its length.
+#[tactic(auto, using(crate::proofs::Laws::Text::partial_length, crate::proofs::Laws::Text::partial_kept))]
 fn keep_partial(text: &mut [u8], at: usize, filled: usize) -> usize
     requires { (at ≤ filled) × (filled ≤ length text.old) }
     ensures length { result ≡ length (clipped (drop at (take filled text.old))) }
@@ -189,7 +190,8 @@ fn piece_fits(filled: usize, long: usize, room: usize) -> bool
 
 // Takes a piece of input, its first `filled` bytes: answers every line that has ended, and puts the partial one behind
 // them, clipped, to the front of the text. The memory is tested once, and each table gets an index. Refusal 2 where text and buffer
-// do not fit.
+// do not fit. The text is flat with its length beside it: C lends it so, and there is no heap to hold a text of its own.
+#[tactic(auto, using(crate::proofs::Laws::Text::piece_room))]
 pub fn take_text(
     book: &mut BookMut,
     lines: u64,
@@ -207,12 +209,13 @@ pub fn take_text(
     let safe = is_safe(&view);
     let mandates = Index::of(view.mandates, view.header.mandates);
     let collections = Index::of(view.collections, view.header.collections);
-    let indexes = Indexes {
+    let mut tables = KnownBook {
+        book,
+        safe,
         mandates: &mandates,
         collections: &collections,
     };
-    let known = if safe { Some(indexes) } else { None };
-    let done = take_lines(known, book, lines, &text[..filled], out);
+    let done = tables.take_lines(lines, &text[..filled], out);
     let partial = keep_partial(text, done.at, filled);
     Ok(Piece {
         lines: done.lines,

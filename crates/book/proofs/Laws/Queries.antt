@@ -8,7 +8,7 @@ use Rattle.refusals.specs.declared.Refusal.{Refusal}
 use Rattle.refusals.specs.declared.Refusal.TheVariants.{UnfitMemory, BadField}
 use Rattle.tables.specs.Ledger.{Ledger}
 use Rattle.fitness.specs.Fitness.{fit}
-use Rattle.model.specs.Step.{in_query, figure_of, query, query_number, answered}
+use Rattle.model.specs.Step.{answer_number, in_query, figure_of, query, answered}
 use Rattle.model.proofs.Laws.Answers.{query_answers}
 use Rattle.book.specs.Events.{Queried}
 
@@ -16,7 +16,7 @@ module _ (l : Ledger) (kind number : ℕ) where
   made : (r : Result ℤ Refusal) → r ≡ query l kind number → Queried l kind number r
   made r e =
       let q = query_answers l kind number in
-      record { answer_is = e; number_is = ap query_number e ∙ q.number_is; figure_is = ap answered e ∙ q.figure_is }
+      record { answer_is = e; number_is = ap answer_number e ∙ q.number_is; figure_is = ap answered e ∙ q.figure_is }
 
   pub queried_unfit : fit l ≡ false → Queried l kind number (Err UnfitMemory)
   unfolding query

@@ -12,7 +12,7 @@ use native.Mathlib.Omega.{arith}
 use borrow.Author.Tests.{ltb-true, ltb-false, eqb-true, eqb-false, eq-eqb, ne_eqb}
 use lib.Dec.{ltb}
 use lib.ListN.{get_or}
-use Rattle.common.proofs.Tests.{true_or_false}
+use Rattle.common.proofs.Tests.{either}
 use Rattle.common.proofs.Walk.{cases_from}
 use Rattle.tables.specs.Lookup.{number_at, number_is}
 use Rattle.tables.proofs.Laws.Lookup.{Grown, lookup_since_lem}
@@ -80,7 +80,7 @@ module _ (table cells : List ℕ) (rows number : ℕ)
       → ((j : ℕ) → i ≤ j → j < q → in_slot table (slot_of number) j ≡ false)
       → (j : ℕ) → j < q → number_is cells number j ≡ false
   none_up i q h below between j b =
-      ⊎_elim (λ e. below j (ltb-true j i e)) (λ e. other_slot j (omega arith) (between j (ltb-false j i e) b)) (true_or_false (ltb j i))
+      either (ltb j i) (λ e. below j (ltb-true j i e)) (λ e. other_slot j (omega arith) (between j (ltb-false j i e) b))
 
   none_left : (i : ℕ) → n ≤ i → ((j : ℕ) → j < i → number_is cells number j ≡ false) → Passed cells number n index.covered
   none_left i h below =
@@ -99,12 +99,11 @@ module _ (table cells : List ℕ) (rows number : ℕ)
       (λ q lo hi own between.
       let b : q < n = omega arith in
       let up = none_up i q (omega arith) below between in
-      ⊎_elim
+      either (number_is cells number q)
       (λ e. rw (hit_at left q (eqb-true (number_at cells q) number e)) (record { inside = omega arith; none = up }))
       (λ e.
       rw (next_at left q (eqb-false (number_at cells q) number e), next_is q b own)
-      (passed_from left (q + 1) (omega arith) (λ j l. ⊎_elim (λ s. rw s e) (λ s. up j s) (eq-or-lt_of_le (le_of_suc-le-suc (rw (add-one q) at l))))))
-      (true_or_false (number_is cells number q)))
+      (passed_from left (q + 1) (omega arith) (λ j l. ⊎_elim (λ s. rw s e) (λ s. up j s) (eq-or-lt_of_le (le_of_suc-le-suc (rw (add-one q) at l)))))))
       (λ between.
       rw (follow_none index cells number (suc left))
       (none_left n (omega arith) (none_up i n (omega arith) below (λ j lo hi. between j lo (omega arith)))))

@@ -3,7 +3,7 @@
 use mathlib.Core.Path.{◌≡◌, refl, sym, ap, ◌∙◌}
 use mathlib.Core.Bool.{true, false}
 use mathlib.Core.List.{List}
-use mathlib.Core.Logic.{◌≢◌, ⊎_elim}
+use mathlib.Core.Logic.{◌≢◌}
 use Prim.Native.Nat.{ℕ, zero, suc, ◌+◌, ◌≤◌, ◌<◌}
 use native.Mathlib.Nat.{add-zero, zero-add}
 use native.Mathlib.Omega.{arith}
@@ -11,7 +11,7 @@ use borrow.Author.Tests.{lt-ltb, ltb-true, ltb-false, eqb-true, eqb-false, eq-eq
 use lib.Dec.{eqb, ltb}
 use lib.ListN.{length, get_or, set, replicate, length-set, length-replicate, get_or-replicate}
 use lib.Seq.{get_or-set_same, get_or-set_other, ext_get_or}
-use Rattle.common.proofs.Tests.{true_or_false}
+use Rattle.common.proofs.Tests.{either}
 use Rattle.common.proofs.Walk.{first_from_hit, first_from_miss, first_from_end}
 use Rattle.tables.specs.Lookup.{number_at}
 use Rattle.index.specs.Index.{slots, row_limit, slot_of, in_slot, row_from, next_from, values_from, covered, index_of}
@@ -92,13 +92,12 @@ module _ (cells : List ℕ) (n : ℕ) (few : n ≤ row_limit) where
           slots_long = length-set first mine (q + 1) ∙ l.slots_long;
           rows_long = length-set next q (get_or first mine 0) ∙ l.rows_long;
           inside = omega (arith, l.inside);
-          slot = λ s b. ⊎_elim (λ e. own s (eqb-true s mine e)) (λ e. other s b (eqb-false s mine e)) (true_or_false (eqb s mine));
+          slot = λ s b. either (eqb s mine) (λ e. own s (eqb-true s mine e)) (λ e. other s b (eqb-false s mine e));
           row =
               λ r lo hi.
-              ⊎_elim
+              either (eqb r q)
               (λ e. let p = eqb-true r q e in rw p own_row)
-              (λ e. elsewhere r (eqb-false r q e) ∙ l.row r (later r lo (eqb-false r q e)) hi)
-              (true_or_false (eqb r q));
+              (λ e. elsewhere r (eqb-false r q e) ∙ l.row r (later r lo (eqb-false r q e)) hi);
           after = λ r b c. elsewhere r (λ e. omega (arith, l.inside)) ∙ l.after r b c;
         }
       where
@@ -134,8 +133,7 @@ linked_end cells used first next l =
     let g : next ≡ values_from (next_from cells n) 0 row_limit =
     is_values (next_from cells n) row_limit next l.rows_long
     (λ r h.
-    ⊎_elim
-    (λ (e : ltb r n ≡ true). rw e (l.row r (omega arith) (ltb-true r n e)))
-    (λ (e : ltb r n ≡ false). rw e (l.after r (ltb-false r n e) h))
-    (true_or_false (ltb r n))) in
+    either (ltb r n)
+    (λ e. rw e (l.row r (omega arith) (ltb-true r n e)))
+    (λ e. rw e (l.after r (ltb-false r n e) h))) in
     rw (f, g)

@@ -1,9 +1,10 @@
 -- Laws of the listing, specs/Listing. To cite: `listed_is`. The rest serves the functions of src/listing.rt. Assumes nothing.
 use mathlib.Core.Path.{◌≡◌, refl, sym, ap, ◌∙◌}
-use mathlib.Core.Bool.{Bool, true, ◌&&◌}
-use mathlib.Core.Logic.{⊎_elim, ◌≢◌}
-use mathlib.Core.List.{List, ◌++◌}
+use mathlib.Core.Bool.{Bool, true, false, cond, ◌&&◌}
+use mathlib.Core.Logic.{◌≢◌}
+use mathlib.Core.List.{List, [], ◌++◌}
 use Prim.Native.Nat.{ℕ, zero, suc, ◌+◌, ◌*◌, ◌≤◌, ◌<◌}
+use native.Mathlib.Nat.{zero-add}
 use native.Mathlib.Numerals.{add-one}
 use native.Mathlib.Omega.{arith}
 use borrow.Author.Tests.{leb-true, le-leb, ltb-true, ltb-false}
@@ -13,9 +14,11 @@ use lib.ListN.{length, get_or, length-append, get_or-eq_default}
 use mir.Syntax.{w64}
 use mir.Val.{to_z, of_z, SFits}
 use mir.Facts.{to_z-of_z}
-use Rattle.common.proofs.Tests.{and_halves, true_or_false}
+use Rattle.std.proofs.Common.{Ok, Err}
+use Rattle.refusals.specs.declared.Refusal.TheVariants.{UnfitMemory}
+use Rattle.common.proofs.Tests.{and_halves, either}
 use Rattle.positions.specs.Positions.{position_limit, position, InLimit}
-use Rattle.positions.proofs.Laws.Integers.{size_within}
+use Rattle.positions.proofs.Laws.Integers.{size_within, bits_back}
 use Rattle.digits.specs.Field.{pasted}
 use Rattle.tables.specs.Limits.{creditor_count, debtor_count, bank_count}
 use Rattle.tables.specs.Ledger.{Ledger}
@@ -23,32 +26,33 @@ use Rattle.fitness.specs.Fitness.{fit, position_fit}
 use Rattle.fitness.proofs.Laws.Fitness.{Fit, fit_facts, position_facts, compensation_facts, creditors_fit_at, positions_fit_at}
 use Rattle.model.specs.Step.{figure_of}
 use Rattle.report.specs.Layout.{position_line, position_length, widest_kind, last_number, position_fits}
-use Rattle.listing.specs.Listing.{table_output, listing_room, listed}
+use Rattle.listing.specs.Listing.{table_output, listing_room, listed, Listed}
 use Rattle.run.specs.Run.{position_output, kind_output, positions_output}
 use Rattle.digits.proofs.Laws.Buffer.{Written, written_none, written_length, written_more}
 use Rattle.run.proofs.Laws.Positions.{position_output_zero, position_output_line, figures_output_none, figures_output_more, figures_output_same, length_figures_output, positions_output_kinds}
 use Rattle.report.proofs.Laws.Layout.{length_position_line, position_fits_is}
 
--- ---- a position of 0, and another
+-- ---- a position of 0, and another: as the code tests its 64 bits
 
--- as the code tests its 64 bits
-pub zero_bits : (z : ℤ) → SFits w64 z → of_z w64 z ≡ 0 → z ≡ pos 0
-zero_bits z f e = sym (to_z-of_z f) ∙ ap (to_z w64) e
+module _ (kind number : ℕ) (cents : ℤ) where
+  zero_none : SFits w64 cents → of_z w64 cents ≡ 0 → position_output kind number cents ≡ []
+  zero_none f e = position_output_zero kind number cents (sym (to_z-of_z f) ∙ ap (to_z w64) e)
 
-pub other_bits : (z : ℤ) → of_z w64 z ≢ 0 → z ≢ pos 0
-other_bits z n e = n (ap (of_z w64) e)
+  other_line : of_z w64 cents ≢ 0 → position_output kind number cents ≡ position_line kind number cents
+  other_line n = position_output_line kind number cents (λ e. n (ap (of_z w64) e))
+
+  pub line_long : of_z w64 cents ≢ 0 → position_length ≡ length (position_output kind number cents)
+  line_long n = rw (other_line n) (sym (length_position_line kind number cents))
 
 module _ (at kind number : ℕ) (cents : ℤ) (out : List ℕ) where
-  pub zero_written : cents ≡ pos 0 → Written at out (position_output kind number cents) at out
-  zero_written e = rw (position_output_zero kind number cents e) (written_none at out)
+  pub zero_written : SFits w64 cents → of_z w64 cents ≡ 0 → Written at out (position_output kind number cents) at out
+  zero_written f e = rw (zero_none kind number cents f e) (written_none at out)
 
   pub line_written : (last : List ℕ)
-      → cents ≢ pos 0
+      → of_z w64 cents ≢ 0
       → last ≡ pasted at (position_line kind number cents) out
-      → Written at out (position_output kind number cents) (at + position_length) last
-  line_written last n e =
-      rw (position_output_line kind number cents n)
-      (record { place = omega (arith, length_position_line kind number cents); bytes = e })
+      → last ≡ pasted at (position_output kind number cents) out
+  line_written last n e = rw (other_line kind number cents n) e
 
   pub position_fits_made :
       at + position_length ≤ length out → kind ≤ widest_kind → number ≤ last_number → nat_abs cents ≤ position_limit
@@ -74,13 +78,21 @@ pub table_start : (at kind : ℕ) (positions : List ℤ) (out : List ℕ) → Wr
 table_start at kind positions out = rw (figures_output_none kind (position positions)) (written_none at out)
 
 module _ (at kind : ℕ) (positions : List ℤ) (out : List ℕ) (ready : Ready at kind positions out) where
-  pub table_inside : (i : ℕ) → i ≤ length positions → at + length (table_output kind positions i) ≤ length out
+  table_inside : (i : ℕ) → i ≤ length positions → at + length (table_output kind positions i) ≤ length out
   table_inside i h = omega (arith, length_figures_output kind (position positions) i, ready.0)
 
-  module _ (i next : ℕ) (now : List ℕ) (w : Written at out (table_output kind positions i) next now) where
-    pub table_fits : i < length positions → position_fits next kind (i + 1) (get_or positions i (pos 0)) now ≡ true
+  module _ (i next : ℕ) (now : List ℕ) (w : Written at out (table_output kind positions i) next now) (h : i < length positions) where
+    -- the next position, as its 64 bits are read
+    abbrev cents : ℤ
+    cents = to_z w64 (of_z w64 (get_or positions i (pos 0)))
+
+    cents_back : cents ≡ get_or positions i (pos 0)
     unfolding position
-    table_fits h =
+    cents_back = bits_back (get_or positions i (pos 0)) (omega (arith, ready.3 (suc i)))
+
+    pub table_fits : position_fits next kind (i + 1) cents now ≡ true
+    unfolding position
+    table_fits =
         let room : next + position_length ≤ length now =
         omega (
           arith,
@@ -89,18 +101,17 @@ module _ (at kind : ℕ) (positions : List ℤ) (out : List ℕ) (ready : Ready 
           ready.0,
           written_length at out (table_output kind positions i) next now w (table_inside i (omega arith)),
         ) in
-        let number : i + 1 ≤ last_number = omega (arith, ready.2) in
-        position_fits_made next kind (i + 1) (get_or positions i (pos 0)) now room ready.1 number (ready.3 (suc i))
+        rw cents_back
+        (position_fits_made next kind (i + 1) (get_or positions i (pos 0)) now room ready.1 (omega (arith, ready.2)) (ready.3 (suc i)))
 
     pub table_more : (r : ℕ) (last : List ℕ)
-        → i < length positions
-        → r ≡ next + length (position_output kind (i + 1) (get_or positions i (pos 0)))
-        → last ≡ pasted next (position_output kind (i + 1) (get_or positions i (pos 0))) now
+        → r ≡ next + length (position_output kind (i + 1) cents)
+        → last ≡ pasted next (position_output kind (i + 1) cents) now
         → Written at out (table_output kind positions (i + 1)) r last
     unfolding position
-    table_more r last h p q =
+    table_more r last p q =
         rw (figures_output_more kind (position positions) i, ap (position positions) (add-one i))
-        (written_more at out (table_output kind positions i) next now w (table_inside i (omega arith)) _ last r p q)
+        (written_more at out (table_output kind positions i) next now w (table_inside i (omega arith)) _ last r (rw cents_back at p) (rw cents_back at q))
 
 -- ---- the whole listing
 
@@ -111,10 +122,9 @@ table_within : (positions : List ℤ)
 unfolding position
 table_within positions f zero = omega arith
 table_within positions f (suc i) =
-    ⊎_elim
+    either (ltb i (length positions))
     (λ t. position_facts (get_or positions i (pos 0)) (f i (ltb-true i (length positions) t)))
     (λ t. rw (get_or-eq_default positions (pos 0) (ltb-false i (length positions) t)) (omega arith))
-    (true_or_false (ltb i (length positions)))
 
 -- all lines of a table
 abbrev pub all_output : ℕ → List ℤ → List ℕ
@@ -143,6 +153,13 @@ module _ (l : Ledger) (out : List ℕ) where
   pub listed_is : (memory room : Bool) → memory ≡ fit l → room ≡ leb listing_room (length out) → memory && room ≡ listed l out
   unfolding listed
   listed_is memory room e f = rw (e, f)
+
+  -- as the code tests it
+  pub listed_when : (memory r : Bool) → memory ≡ fit l → memory && leb listing_room (length out) ≡ r → listed l out ≡ r
+  listed_when memory r e f = sym (listed_is memory (leb listing_room (length out)) e refl) ∙ f
+
+  pub listed_refused : listed l out ≡ false → Listed l out (Err UnfitMemory) out
+  listed_refused f = record { answer_is = rw f; number_is = rw f; out_is = rw f }
 
   module _ (h : listed l out ≡ true) where
     pub listing_room_lem : listing_room ≤ length out
@@ -205,36 +222,6 @@ module _ (l : Ledger) (out : List ℕ) where
     three_inside : 0 + length (three_kinds l) ≤ length out
     three_inside = omega (arith, three_length, listing_room_lem)
 
-    pub debtors_ready : (next : ℕ) (now : List ℕ) → Written 0 out (first_kind l) next now → Ready next 2 l.debtor_positions now
-    debtors_ready next now w = (
-      omega (arith, debtors_size, listing_room_lem, first_length, w.place, written_length 0 out (first_kind l) next now w first_inside),
-      omega arith,
-      omega (arith, debtors_size),
-      table_within l.debtor_positions (positions_fit_at l.debtor_positions listing_fit.debtors),
-    )
-
-    pub debtors_written : (next : ℕ) (now : List ℕ) (r : ℕ) (last : List ℕ)
-        → Written 0 out (first_kind l) next now
-        → r ≡ next + length (all_output 2 l.debtor_positions)
-        → last ≡ pasted next (all_output 2 l.debtor_positions) now
-        → Written 0 out (two_kinds l) r last
-    debtors_written next now r last w p q = written_more 0 out (first_kind l) next now w first_inside _ last r p q
-
-    pub banks_ready : (next : ℕ) (now : List ℕ) → Written 0 out (two_kinds l) next now → Ready next 3 l.bank_positions now
-    banks_ready next now w = (
-      omega (arith, banks_size, listing_room_lem, two_length, w.place, written_length 0 out (two_kinds l) next now w two_inside),
-      omega arith,
-      omega (arith, banks_size),
-      table_within l.bank_positions (positions_fit_at l.bank_positions listing_fit.banks),
-    )
-
-    pub banks_written : (next : ℕ) (now : List ℕ) (r : ℕ) (last : List ℕ)
-        → Written 0 out (two_kinds l) next now
-        → r ≡ next + length (all_output 3 l.bank_positions)
-        → last ≡ pasted next (all_output 3 l.bank_positions) now
-        → Written 0 out (three_kinds l) r last
-    banks_written next now r last w p q = written_more 0 out (two_kinds l) next now w two_inside _ last r p q
-
     -- the kinds and the total are the listing
     positions_output_is : three_kinds l ++ position_line 4 0 l.compensation ≡ positions_output l
     positions_output_is =
@@ -245,31 +232,62 @@ module _ (l : Ledger) (out : List ℕ) where
           all_kind l 3 l.bank_positions bank_count banks_size (λ number. refl),
         )
 
-    pub cents_size : nat_abs l.compensation ≤ position_limit
+    cents_size : nat_abs l.compensation ≤ position_limit
     cents_size = (compensation_facts l.compensation listing_fit.header.cents).to
 
-    -- the total, be it 0
-    module _ (next : ℕ) (now : List ℕ) (w : Written 0 out (three_kinds l) next now) where
-      same : length now ≡ length out
-      same = written_length 0 out (three_kinds l) next now w three_inside
+    -- the creditors are written
+    module _ (d : ℕ) (one : List ℕ) (p : d ≡ 0 + length (first_kind l)) (q : one ≡ pasted 0 (first_kind l) out) where
+      first : Written 0 out (first_kind l) d one
+      first = record { place = p; bytes = q }
 
-      pub total_room : next + position_length ≤ length out
-      total_room = omega (arith, listing_room_lem, three_length, w.place)
+      pub debtors_ready : Ready d 2 l.debtor_positions one
+      debtors_ready = (
+        omega (arith, debtors_size, listing_room_lem, first_length, p, written_length 0 out (first_kind l) d one first first_inside),
+        omega arith,
+        omega (arith, debtors_size),
+        table_within l.debtor_positions (positions_fit_at l.debtor_positions listing_fit.debtors),
+      )
 
-      pub total_fits : position_fits next 4 0 l.compensation now ≡ true
-      total_fits =
-          position_fits_made next 4 0 l.compensation now
-          (omega (arith, total_room, same))
-          (omega arith)
-          (omega arith)
-          cents_size
+      -- and the debtors
+      module _ (b : ℕ) (two : List ℕ) (r : b ≡ d + length (all_output 2 l.debtor_positions)) (s : two ≡ pasted d (all_output 2 l.debtor_positions) one) where
+        second : Written 0 out (two_kinds l) b two
+        second = written_more 0 out (first_kind l) d one first first_inside _ two b r s
 
-      pub listing_written : (last : List ℕ)
-          → last ≡ pasted next (position_line 4 0 l.compensation) now
-          → Written 0 out (positions_output l) (next + position_length) last
-      listing_written last e =
-          let line = position_line 4 0 l.compensation in
-          rw (← positions_output_is)
-          (written_more 0 out (three_kinds l) next now w three_inside line last (next + position_length)
-          (omega (arith, length_position_line 4 0 l.compensation))
-          e)
+        pub banks_ready : Ready b 3 l.bank_positions two
+        banks_ready = (
+          omega (arith, banks_size, listing_room_lem, two_length, second.place, written_length 0 out (two_kinds l) b two second two_inside),
+          omega arith,
+          omega (arith, banks_size),
+          table_within l.bank_positions (positions_fit_at l.bank_positions listing_fit.banks),
+        )
+
+        -- and the banks: the total is next, be it 0
+        module _ (t : ℕ) (three : List ℕ) (u : t ≡ b + length (all_output 3 l.bank_positions)) (v : three ≡ pasted b (all_output 3 l.bank_positions) two) where
+          third : Written 0 out (three_kinds l) t three
+          third = written_more 0 out (two_kinds l) b two second two_inside _ three t u v
+
+          total_room : t + position_length ≤ length out
+          total_room = omega (arith, listing_room_lem, three_length, third.place)
+
+          total_fits : position_fits t 4 0 l.compensation three ≡ true
+          total_fits =
+              position_fits_made t 4 0 l.compensation three
+              (omega (arith, total_room, written_length 0 out (three_kinds l) t three third three_inside))
+              (omega arith)
+              (omega arith)
+              cents_size
+
+          -- the total as its 64 bits are read
+          pub listing_done : (cents : ℤ) (last : List ℕ)
+              → cents ≡ to_z w64 (of_z w64 l.compensation)
+              → last ≡ cond (position_fits t 4 0 cents three) (pasted t (position_line 4 0 cents) three) three
+              → Listed l out (Ok (t + position_length)) last
+          listing_done cents last e w =
+              let line = position_line 4 0 l.compensation in
+              let z : cents ≡ l.compensation = e ∙ bits_back l.compensation (omega (arith, cents_size)) in
+              let all : Written 0 out (positions_output l) (t + position_length) last =
+              rw (← positions_output_is)
+              (written_more 0 out (three_kinds l) t three third three_inside line last (t + position_length)
+              (omega (arith, length_position_line 4 0 l.compensation))
+              (rw (z, total_fits) at w)) in
+              record { answer_is = rw h (ap Ok (all.place ∙ zero-add _)); number_is = rw h; out_is = rw h all.bytes }

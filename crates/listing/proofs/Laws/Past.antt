@@ -1,9 +1,8 @@
--- Laws of specs/Past: the lines of a text counted byte by byte. To cite: `Counted` with `count_start`, `count_step`, `count_end`; `few_bytes`;
+-- Laws of specs/Past: the lines of a text counted byte by byte. To cite: `Counted` with `count_step`, `count_end`; `few_bytes`;
 -- `past_next`; `past_holds`. Assumes nothing.
 use mathlib.Core.Path.{◌≡◌, refl, sym, ap, ◌∙◌}
 use mathlib.Core.Bool.{Bool, true, false, cond, ◌&&◌, ◌||◌}
 use mathlib.Core.List.{List, [], ◌∷◌, ◌++◌}
-use mathlib.Core.Logic.{⊎_elim}
 use Prim.Native.Nat.{ℕ, zero, suc, ◌+◌, ◌-◌, ◌≤◌, ◌<◌}
 use native.Mathlib.Nat.{zero-add}
 use native.Mathlib.Omega.{arith}
@@ -11,7 +10,7 @@ use borrow.Author.Tests.{ne_eqb, lt-ltb, le-ltb, le-leb, lt-leb, ltb-true, ltb-f
 use lib.Dec.{eqb, ltb}
 use lib.ListN.{length, take, drop, get_or, length-take, length-drop}
 use lib.Seq.{drop-cons, drop-length}
-use Rattle.common.proofs.Tests.{true_or_false}
+use Rattle.common.proofs.Tests.{either}
 use Rattle.lines.specs.Line.{line_end}
 use Rattle.report.specs.Layout.{last_number}
 use Rattle.run.specs.Lines.{lines_from, answered_lines}
@@ -78,9 +77,6 @@ pub record Counted (text : List ℕ) (n i : ℕ) : Type 0 where
   pub inside : i ≤ length text
   pub few : n ≤ i
   pub rest : n + line_count (drop i text) ≡ line_count text
-
-pub count_start : (text : List ℕ) → Counted text 0 0
-count_start text = record { inside = omega arith; few = omega arith; rest = zero-add (line_count text) }
 
 pub count_step : (text : List ℕ) (n i r : ℕ) → Counted text n i → i < length text → r ≡ cond (eqb (get_or text i 0) line_end) 1 0 → Counted text (n + r) (i + 1)
 count_step text n i r c h e =
@@ -155,10 +151,9 @@ MoreLines over lines partial = goes_past over lines partial ≡ ltb (end_lines l
 -- no line is past the last: a partial one may be
 more_none : (lines partial : ℕ) → MoreLines 0 lines partial
 more_none lines partial =
-    ⊎_elim
-    (λ (f : ltb lines last_number ≡ true). rw (f, lt-leb last_number lines (ltb-true lines last_number f)) (before (ltb 0 partial)))
-    (λ (f : ltb lines last_number ≡ false). rw (f, le-leb last_number lines (ltb-false lines last_number f)) (behind (ltb 0 partial)))
-    (true_or_false (ltb lines last_number))
+    either (ltb lines last_number)
+    (λ f. rw (f, lt-leb last_number lines (ltb-true lines last_number f)) (before (ltb 0 partial)))
+    (λ f. rw (f, le-leb last_number lines (ltb-false lines last_number f)) (behind (ltb 0 partial)))
   where
     before : (some : Bool) → false || (false && some) ≡ ltb (cond (true && some) (lines + 1) lines) (lines + 0 + cond some 1 0)
     before true = sym (le-ltb (lines + 1) (lines + 0 + 1) (omega arith))

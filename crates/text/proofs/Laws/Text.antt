@@ -1,17 +1,17 @@
--- Laws of specs/Text, for the functions of src/text.rt in their order. To cite: `output_line`;
--- `AnsweredTo` with `answered_start`, `answered_line`, `answered_end`. Assumes nothing.
+-- Laws of specs/Text, for the functions of src/text.rt in their order. To cite: `mandates_from`, `collections_from`, `known_kept`;
+-- `output_line`; `AnsweredTo` with `answered_start`, `answered_line`, `answered_end`. Assumes nothing.
 use Rattle.std.specs.List.{copy_within}
-use Rattle.std.proofs.Common.{Option, Some, None, Err, Ok, Result}
+use Rattle.std.proofs.Common.{Err, Ok, Some, Result}
 use mathlib.Core.Path.{◌≡◌, refl, sym, ap, ◌∙◌}
 use mathlib.Core.Bool.{Bool, true, false, cond}
 use mathlib.Core.Logic.{◌≢◌}
 use mathlib.Core.List.{List, [], ◌++◌}
 use Prim.Native.Nat.{ℕ, ◌+◌, ◌-◌, ◌*◌, ◌/◌, ◌≤◌, ◌<◌, min}
-use native.Mathlib.Nat.{add-zero, zero-add}
+use native.Mathlib.Nat.{zero-add}
 use native.Mathlib.Omega.{arith}
 use borrow.Author.Tests.{lt-ltb, leb-true}
 use lib.Dec.{ltb, leb}
-use lib.ListN.{length, take, drop, get_or, length-append, length-take, length-drop, take-append-drop}
+use lib.ListN.{length, take, drop, get_or, length-append, length-take, length-drop}
 use lib.Seq.{length-take-le, get_or-drop, get_or-take, ext_get_or}
 use Rattle.common.proofs.Tests.{and_halves}
 use Rattle.refusals.specs.declared.Refusal.{Refusal}
@@ -20,26 +20,45 @@ use Rattle.events.specs.declared.Event.{Event}
 use Rattle.digits.specs.Field.{pasted}
 use Rattle.lines.specs.Line.{line_end, read_line}
 use Rattle.tables.specs.Ledger.{Ledger}
-use Rattle.model.specs.Step.{answer_number}
-use Rattle.index.proofs.Laws.Following.{indexed_kept}
+use Rattle.model.specs.Step.{answer_number, after}
+use Rattle.index.proofs.Laws.Following.{indexed_kept, index_holds}
+use Rattle.index.specs.declared.Index.{Index}
+use Rattle.index.specs.Index.{first_row}
+use Rattle.tables.specs.Lookup.{MayStart}
+use Rattle.std.proofs.Math.Logic.{∥∥₁_elim}
+use Rattle.std.proofs.Props.{props}
 use Rattle.model.proofs.Laws.Batch.{after_safe}
 use Rattle.model.proofs.Laws.Grown.{mandates_grown, collections_grown}
 use Rattle.report.specs.Layout.{answer_length, answer_line, answer_fits, last_number, last_answer}
-use Rattle.run.specs.Run.{Run, run_at, clipped_length, clipped, answer_to, after_line, ended, line_output, take_text, text_output}
-use Rattle.report.proofs.Laws.Cut.{FirstEnd}
+use Rattle.run.specs.Run.{Run, run_at, clipped_length, clipped, answer_to, line_output, take_text, text_output}
+use Rattle.report.specs.Cut.{end_from}
+use Rattle.report.proofs.Laws.Cut.{FirstEnd, end_from_at}
 use Rattle.digits.proofs.Laws.Buffer.{pasted_next}
 use Rattle.report.proofs.Laws.Layout.{length_answer_line, answer_fits_made}
 use Rattle.run.proofs.Laws.Run.{Answering, answering_start, answering_line, rest_after, rest_output}
-use Rattle.text.specs.declared.text.Indexes.{Indexes}
 use Rattle.text.specs.declared.text.Progress.{Progress}
-use Rattle.text.specs.Text.{Prepared, WhenKnown, LineTaken, LineAnswered, LinesAnswered, piece_fits}
+use Rattle.text.specs.Text.{Known, LineTaken, LineAnswered, LinesAnswered, piece_fits}
+
+-- ---- what is known of the tables
+
+module _ (safe : Bool) (mandates collections : Index) (l : Ledger) (k : ∥ Known safe mandates collections l ∥₁) where
+  pub mandates_from : (number : ℕ) → MayStart l.mandates l.mandates_used number (first_row mandates l.mandates number)
+  mandates_from number = ∥∥₁_elim k (Prim.hlevel props) (λ w. index_holds _ _ _ _ w.mandates)
+
+  pub collections_from : (number : ℕ) → MayStart l.collections l.collections_used number (first_row collections l.collections number)
+  collections_from number = ∥∥₁_elim k (Prim.hlevel props) (λ w. index_holds _ _ _ _ w.collections)
+
+  -- it stays so: an event keeps safe memory safe, and the rows that the indexes cover
+  pub known_kept : (l' : Ledger) (e : Event) → l' ≡ after l e → ∥ Known safe mandates collections l' ∥₁
+  known_kept l' e t =
+      ∥∥₁_elim k (Prim.hlevel props)
+      (λ w. ∣ rw t (record {
+        when_safe = λ s. after_safe l e (w.when_safe s);
+        mandates = indexed_kept mandates l.mandates _ l.mandates_used _ w.mandates (mandates_grown l e);
+        collections = indexed_kept collections l.collections _ l.collections_used _ w.collections (collections_grown l e);
+      }) ∣₁)
 
 -- ---- a line that has ended
-
--- nothing written
-pasted_none : (at : ℕ) (out : List ℕ) → out ≡ pasted at [] out
-pasted_none at out =
-    sym (take-append-drop at out) ∙ ap (λ (n : ℕ). take at out ++ drop n out) (sym (add-zero at))
 
 -- the number of an answer has at most three digits
 answer_narrow : (a : Result Unit Refusal) → answer_number a ≤ last_answer
@@ -64,28 +83,6 @@ module _ (l : Ledger) (p : Progress) (line out : List ℕ) (h : p.lines < last_n
 
 -- ---- the lines of a text
 
--- what was prepared stays so: a line keeps safe memory safe, and the rows that the indexes cover
-module _ (made : Indexes) where
-  line_prepared : (l : Ledger) (a : Result Event Refusal) → Prepared made l → Prepared made (after_line l a)
-  line_prepared l (Ok e) p =
-      record {
-        safe = after_safe l e p.safe;
-        mandates = indexed_kept made.mandates.now l.mandates _ l.mandates_used _ p.mandates (mandates_grown l e);
-        collections = indexed_kept made.collections.now l.collections _ l.collections_used _ p.collections (collections_grown l e);
-      }
-  line_prepared l (Err r) p = p
-
-  ended_prepared : (l : Ledger) (n : ℕ) (line : List ℕ) → Prepared made l → Prepared made (ended (run_at l n []) line).book
-  ended_prepared l n line p = by_more (ltb n last_number)
-    where
-      by_more : (more : Bool) → Prepared made (cond more (run_at (after_line l (read_line line)) (n + 1) []) (run_at l n [])).book
-      by_more true = line_prepared l (read_line line) p
-      by_more false = p
-
-known_kept : (known : Option Indexes) (l : Ledger) (n : ℕ) (line : List ℕ) → WhenKnown known l → WhenKnown known (ended (run_at l n []) line).book
-known_kept None l n line k = tt
-known_kept (Some made) l n line k = ended_prepared made l n line k
-
 -- a line writes one answer at most
 ended_short : (r : Run) (line : List ℕ) → length (line_output r line) ≤ answer_length
 ended_short r line = by_more (ltb r.lines last_number)
@@ -94,25 +91,29 @@ ended_short r line = by_more (ltb r.lines last_number)
     by_more true = omega (arith, length_answer_line (r.lines + 1) (answer_number (answer_to r.book (read_line line))))
     by_more false = omega arith
 
+-- where the next line ends
+pub end_inside : (text : List ℕ) (at k : ℕ) → end_from text at ≡ Some k → k < length text
+end_inside text at k e = (end_from_at text at k e).inside
+
+pub end_onward : (text : List ℕ) (at k : ℕ) → end_from text at ≡ Some k → at ≤ k
+end_onward text at k e = (end_from_at text at k e).onward
+
 -- the lines before a place have been answered
 pub record AnsweredTo
-    (known : Option Indexes) (s : Run) (text out : List ℕ) (at : ℕ) (l : Ledger) (p : Progress) (out' : List ℕ) : Type 0 where
-  pub tested : WhenKnown known l
+    (s : Run) (text out : List ℕ) (at : ℕ) (l : Ledger) (p : Progress) (out' : List ℕ) : Type 0 where
   pub answered : Answering s text at l p.lines (text_output s (take at text))
   pub bytes : out' ≡ pasted 0 (text_output s (take at text)) out
   pub written : p.written ≡ length (text_output s (take at text))
   pub few : p.written ≤ answer_length * at
   pub inside : at ≤ length text
 
-module _ (known : Option Indexes) (text out : List ℕ) where
+module _ (text out : List ℕ) where
   pub answered_start : (l : Ledger) (p : Progress)
-      → WhenKnown known l
       → p.written ≡ 0
-      → AnsweredTo known (run_at l p.lines []) text out 0 l p out
+      → AnsweredTo (run_at l p.lines []) text out 0 l p out
   unfolding take_text text_output
-  answered_start l p k z =
+  answered_start l p z =
       record {
-        tested = k;
         answered = answering_start l p.lines text;
         bytes = refl;
         written = z;
@@ -123,10 +124,10 @@ module _ (known : Option Indexes) (text out : List ℕ) where
   -- one line more, from at to k
   module _ (s : Run) (at k : ℕ) (f : FirstEnd text at k) where
     pub answered_line : (l l' : Ledger) (p r : Progress) (line mid next : List ℕ)
-        → AnsweredTo known s text out at l p mid
+        → AnsweredTo s text out at l p mid
         → line ≡ take (k + 1 - at) (drop at text)
         → LineAnswered l p line mid r l' next
-        → AnsweredTo known s text out (k + 1) l' r next
+        → AnsweredTo s text out (k + 1) l' r next
     answered_line l l' p r line mid next t e w =
         let written = text_output s (take at text) in
         let more = line_output (run_at l p.lines []) line in
@@ -134,7 +135,6 @@ module _ (known : Option Indexes) (text out : List ℕ) where
         let q : text_output s (take (k + 1) text) ≡ written ++ more = a.so_far in
         let n : length (text_output s (take (k + 1) text)) ≡ length written + length more = ap length q ∙ length-append written more in
         record {
-          tested = rw (ap (λ (x : Run). x.book) w.run) (known_kept known l p.lines line t.tested);
           answered = record { now = a.now; so_far = refl };
           bytes = rw q (pasted_next 0 written out p.written more mid next (omega arith) (sym t.written) t.bytes (rw (zero-add) w.bytes));
           written = omega (arith, w.written, t.written, n);
@@ -144,7 +144,7 @@ module _ (known : Option Indexes) (text out : List ℕ) where
 
   -- no line ends behind the place
   pub answered_end : (s : Run) (at : ℕ) (l : Ledger) (p : Progress) (out' : List ℕ)
-      → AnsweredTo known s text out at l p out'
+      → AnsweredTo s text out at l p out'
       → ((j : ℕ) → at ≤ j → j < length text → get_or text j 0 ≢ line_end)
       → LinesAnswered s text out (record { lines = p.lines; written = p.written; at = at }) l out'
   answered_end s at l p out' t none =
@@ -155,10 +155,6 @@ module _ (known : Option Indexes) (text out : List ℕ) where
         written = rw q t.written;
         inside = t.inside;
       }
-
--- the room for the next line's answer
-pub line_room : (written at k long room : ℕ) → written ≤ answer_length * at → at ≤ k → k < long → answer_length * long ≤ room → written + answer_length ≤ room
-line_room written at k long room a b c d = omega arith
 
 -- ---- the partial line
 

@@ -1,3 +1,4 @@
+-- `first_row` meets its contract. The loop: to follow the index from row k - 1 on gives the answer. Assumes nothing.
 use Rattle.std.proofs.Common.{rules, ◌≡◌, ◌∙◌, ℕ, ◌+◌, ◌-◌, get_or, ap, sym, arith}
 use Rattle.index.specs.Index.{row_limit}
 use Rattle.index.proofs.Laws.Following.{follow_start, follow_none, follow_end, follow_hit, follow_next}

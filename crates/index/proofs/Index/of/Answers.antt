@@ -1,3 +1,4 @@
+-- `of` makes the index row by row, from the last one covered to the first: each comes before those of its slot. Assumes nothing.
 use Rattle.std.proofs.Common.{◌≡◌, ℕ, ◌+◌, ◌-◌, subst, ap, ◌∙◌, refl, arith}
 use Rattle.index.proofs.Laws.Making.{Linked, linked_start, linked_row, linked_end}
 use Rattle.index.specs.declared.Index.{Index}
