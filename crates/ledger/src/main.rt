@@ -170,12 +170,7 @@ fn main(rt: HostRuntime) {
     let mut creditor_positions = [0i64; 256];
     let mut debtor_positions = [0i64; 4096];
     let mut bank_positions = [0i64; 64];
-    let mut header = Header {
-        latest: 0,
-        mandates: 0,
-        collections: 0,
-        compensation: 0,
-    };
+    let mut header = Header::default();
     let opened = open_ledger(
         &mut header,
         &mandates,

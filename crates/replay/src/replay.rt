@@ -1,7 +1,8 @@
 // Replay: a lent list of events on a ledger that is opened first: specs/Replay.
 ghost use Rattle.std.specs.Prelude.{◌≡◌, true};
+ghost use Rattle.refusals.specs.Refusals.{answer_number};
 ghost use Rattle.tables.specs.Ledger.{ledger_in, SameLoans};
-ghost use Rattle.opening.specs.Opening.{open_number, open_result, opening};
+ghost use Rattle.opening.specs.Opening.{open_result, opening};
 ghost use Rattle.model.specs.Step.{run};
 ghost use Rattle.model.specs.Bounds.{Safe};
 ghost use Rattle.fitness.specs.Fitness.{fit};
@@ -18,7 +19,7 @@ use tables::BookMut;
 // Opens the ledger of a book.
 fn open(book: &mut BookMut) -> Result<(), Refusal>
     ensures loans { SameLoans book.old book.new }
-    ensures opening { open_result (open_number result) (ledger_in book.new) ≡ opening (ledger_in book.old) }
+    ensures opening { open_result (answer_number result) (ledger_in book.new) ≡ opening (ledger_in book.old) }
 {
     let mandates = &mut *book.mandates;
     let collections = &mut *book.collections;

@@ -56,7 +56,7 @@ pub fn answer_line(out: &mut [u8], at: usize, number: u64, answer: u64) -> bool
     fits
 }
 
-// Writes the position line of a party, or writes nothing: whether it did.
+// Writes the position line of a party, or writes nothing: whether it did. The kind is a number: any that its columns hold is written.
 #[tactic(auto, unfolding(crate::specs::Layout::position_fits))]
 pub fn position_line(out: &mut [u8], at: usize, kind: u64, number: u64, cents: i64) -> bool
     ensures answer { result ≡ position_fits at kind number cents out.old }

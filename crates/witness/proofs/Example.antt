@@ -2,16 +2,14 @@
 -- figures of the journal, which is fed the events and these answers. To cite: `example`. Assumes nothing.
 use Rattle.std.proofs.Common.{Ok, Result}
 use mathlib.Core.Path.{◌≡◌, refl, ap, ◌∙◌}
-use mathlib.Core.Bool.{true, false, ◌&&◌}
+use mathlib.Core.Bool.{true, ◌&&◌}
 use mathlib.Core.List.{List, [], ◌∷◌, ◌++◌}
-use mathlib.Core.Logic.{⊎_elim}
-use Prim.Native.Nat.{ℕ, zero, suc, ◌+◌, ◌≤◌, ◌<◌}
+use Prim.Native.Nat.{ℕ, suc, ◌+◌, ◌≤◌}
 use native.Mathlib.Omega.{arith}
 use lib.Dec.{eqb, leb}
-use lib.IntN.{ℤ}
 use lib.ListN.{drop, length}
 use borrow.Author.Tests.{eqb-true, le-leb}
-use Rattle.common.proofs.Tests.{and_halves, and_true, true_or_false}
+use Rattle.common.proofs.Tests.{and_halves, and_true, either}
 use Rattle.calendar.specs.Gregorian.{leap, leap_day}
 use Rattle.calendar.specs.DayNumber.{days_before, year_start, day_number}
 use Rattle.positions.specs.Compensation.{compensation as compensationFor, interest, half_up}
@@ -23,13 +21,15 @@ use Rattle.opening.specs.Opening.{OpenResult, opened}
 use Rattle.opening.proofs.Laws.Opening.{opening_done}
 use Rattle.model.specs.Step.{in_query, figure_of, query, run, Entry, history}
 use Rattle.model.specs.Journal.{Journal, new_noted, collected_on, noted_collection, note_collect, noted_settled, note_settle, note_refund, paid_on, note_kind, journal_from, journal, figure_in}
+use Rattle.model.proofs.Laws.Answers.{query_facts}
 use Rattle.model.proofs.Laws.Theorem.{demand3}
 use Rattle.report.specs.Layout.{answer_line, position_line}
 use Rattle.run.specs.Run.{run_at, take_text, text_output, figures_output, kind_output, positions_output}
+use Rattle.run.proofs.Laws.Positions.{figures_output_same}
 use Rattle.witness.specs.Opening.{lent, answers}
 use Rattle.witness.specs.Text.{text_of, read_of, taken_of, whole_output}
 use Rattle.witness.specs.Example.{input, output, events, numbers, positions, cents_in, Example}
-use Rattle.witness.proofs.Ruled.{ruled_answer, ruled_answers, lent_sizes, opened_answers, opened_fit, entries, history_answers}
+use Rattle.witness.proofs.Ruled.{ruled_answer, ruled_answers, lent_sizes, opened_answers, entries, history_answers}
 use Rattle.refusals.specs.declared.Refusal.{Refusal}
 use Rattle.events.specs.declared.Event.{Event}
 
@@ -49,22 +49,18 @@ closing : Journal
 unfolding events journal_from note_kind new_noted collected_on noted_collection note_collect noted_settled note_settle note_refund paid_on compensationFor interest half_up leap leap_day days_before year_start day_number
 closing = journal (entries events numbers)
 
--- a number is k or not
-either : {A : Type 0} (n k : ℕ) → (n ≡ k → A) → (eqb n k ≡ false → A) → A
-either n k same other = ⊎_elim (λ p. same (eqb-true n k p)) other (true_or_false (eqb n k))
-
 creditors : (n : ℕ) → figure_in closing 1 n ≡ cents_in positions 1 n
 unfolding closing
-creditors n = either n 1 (λ p. rw p) (λ p. rw p)
+creditors n = either (eqb n 1) (λ p. rw (eqb-true n 1 p)) (λ p. rw p)
 
 -- the debtor got all of it back
 debtors : (n : ℕ) → figure_in closing 2 n ≡ cents_in positions 2 n
 unfolding closing
-debtors n = either n 5 (λ p. rw p) (λ p. rw p)
+debtors n = either (eqb n 5) (λ p. rw (eqb-true n 5 p)) (λ p. rw p)
 
 banks : (n : ℕ) → figure_in closing 3 n ≡ cents_in positions 3 n
 unfolding closing
-banks n = either n 1 (λ p. rw p) (λ p. either n 2 (λ q. rw q) (λ q. rw (p, q)))
+banks n = either (eqb n 1) (λ p. rw (eqb-true n 1 p)) (λ p. either (eqb n 2) (λ q. rw (eqb-true n 2 q)) (λ q. rw (p, q)))
 
 total : figure_in closing 4 0 ≡ cents_in positions 4 0
 unfolding closing
@@ -72,11 +68,11 @@ total = refl
 
 closing_figures : (kind number : ℕ) → in_query kind number ≡ true → figure_in closing kind number ≡ cents_in positions kind number
 closing_figures kind number q =
-    either kind 1 (λ p. rw p (creditors number))
+    either (eqb kind 1) (λ p. rw (eqb-true kind 1 p) (creditors number))
     (λ not1.
-    either kind 2 (λ p. rw p (debtors number))
+    either (eqb kind 2) (λ p. rw (eqb-true kind 2 p) (debtors number))
     (λ not2.
-    either kind 3 (λ p. rw p (banks number))
+    either (eqb kind 3) (λ p. rw (eqb-true kind 3 p) (banks number))
     (λ not3.
     let last = and_halves (eqb kind 4) (rw (not1, not2, not3) at q) in
     rw (eqb-true kind 4 last.0, eqb-true number 0 last.1) total)))
@@ -93,28 +89,16 @@ figures kind number q =
     ∙ ap (λ (h : List Entry). Ok (figure_in (journal h) kind number)) history_is
     ∙ ap Ok (closing_figures kind number q)
 
--- what a fit ledger answers is what it has
 figure_is : (kind number : ℕ) → in_query kind number ≡ true → figure_of after_example kind number ≡ cents_in positions kind number
-unfolding query
-figure_is kind number q =
-    let f = opened_fit lent lent_sizes events in
-    let e : query after_example kind number ≡ Ok (figure_of after_example kind number) = rw (f, q) in
-    let g = figures kind number q in
-    cc
+figure_is kind number q = (query_facts after_example kind number (cents_in positions kind number) (figures kind number q)).1
 
 -- ---- the listing
-
-same_lines : (kind : ℕ) (f g : ℕ → ℤ) (n : ℕ) → ((i : ℕ) → i < n → f (suc i) ≡ g (suc i)) → figures_output kind f n ≡ figures_output kind g n
-unfolding figures_output
-same_lines kind f g zero h = refl
-same_lines kind f g (suc n) h =
-    rw (same_lines kind f g n (λ i k. h i (omega arith)), h n (omega arith))
 
 -- the lines of a kind of parties
 lines_of : (kind count : ℕ) → ((n : ℕ) → 1 ≤ n → n ≤ count → in_query kind n ≡ true)
     → kind_output after_example kind count ≡ figures_output kind (cents_in positions kind) count
 lines_of kind count q =
-    same_lines kind (figure_of after_example kind) (cents_in positions kind) count
+    figures_output_same kind (figure_of after_example kind) (cents_in positions kind) count
     (λ i k. figure_is kind (suc i) (q (suc i) (omega arith) (omega arith)))
 
 -- the lines of all positions are computed

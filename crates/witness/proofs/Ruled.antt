@@ -1,16 +1,12 @@
 -- An opened ledger stays fit, whatever the events, so they are answered by the rules alone: no answer need test the memory.
--- To cite: `opened_answers`, `opened_run`, `opened_fit`, `opened_answer`, `history_answers`. Assumes nothing.
-use Rattle.std.proofs.Common.{Err, Ok, Result}
+-- To cite: `opened_answers`, `opened_run`, `opened_answer`, `history_answers`. Assumes nothing.
+use Rattle.std.proofs.Common.{Result}
 use mathlib.Core.Path.{◌≡◌, refl, ap, ◌∙◌}
 use mathlib.Core.Bool.{true}
 use mathlib.Core.List.{List, [], ◌∷◌}
 use Prim.Native.Nat.{ℕ}
-use native.Mathlib.Omega.{arith}
 use lib.Dec.{eqb}
-use borrow.Author.Tests.{ne_eqb}
 use Rattle.refusals.specs.declared.Refusal.{Refusal}
-use Rattle.refusals.specs.Refusals.{number_of}
-use Rattle.refusals.proofs.Laws.Refusals.{number_of_pos}
 use Rattle.calendar.specs.Gregorian.{leap, leap_day, month_length, is_date, in_range}
 use Rattle.calendar.specs.DayNumber.{days_before, year_start, day_number, year_at, month_at, date_in, date_at, date_of}
 use Rattle.calendar.specs.Easter.{computus, easter_sunday}
@@ -31,8 +27,9 @@ use Rattle.model.specs.Lookups.{mandate_of, collection_of}
 use Rattle.model.specs.Deadlines.{kept_due, timely, last_day, lapse_end}
 use Rattle.model.specs.Checks.{ruled}
 use Rattle.model.specs.Effects.{changed, presented_on, new_collection, treated, effect}
-use Rattle.model.specs.Step.{answer_number, is_accepted, then_ruled, answer, after_answer, after, run, Entry, entry, history}
+use Rattle.model.specs.Step.{answer_number, then_ruled, answer, after_answer, after, run, Entry, entry, history}
 use Rattle.model.specs.Bounds.{Safe}
+use Rattle.model.proofs.Laws.Answers.{accepted_number}
 use Rattle.model.proofs.Laws.Batch.{after_safe, run_safe, opened_safe}
 use Rattle.witness.specs.Opening.{lent, answers}
 
@@ -92,7 +89,7 @@ module _ (t : Ledger) (z : sizes_fit t ≡ true) (es : List Event) where
   pub opened_run : run (opened t) es ≡ ruled_run (fresh t) es
   opened_run = run_ruled es (opened t) (opened_safe t z) ∙ ap (λ (l : Ledger). ruled_run l es) (opened_done t z)
 
-  pub opened_fit : fit (run (opened t) es) ≡ true
+  opened_fit : fit (run (opened t) es) ≡ true
   opened_fit = (run_safe es (opened t) (opened_safe t z)).fits
 
   -- the answer to one event more
@@ -113,10 +110,6 @@ abbrev pub entries : List Event → List ℕ → List Entry
 entries [] ns = []
 entries (e ∷ es) [] = []
 entries (e ∷ es) (n ∷ ns) = entry e (eqb n 0) ∷ entries es ns
-
-accepted_number : (a : Result Unit Refusal) → is_accepted a ≡ eqb (answer_number a) 0
-accepted_number (Ok tt) = refl
-accepted_number (Err r) = rw (ne_eqb (number_of r) 0 (λ e. let p = number_of_pos r in omega arith))
 
 pub history_answers : (es : List Event) (l : Ledger) → history l es ≡ entries es (answers l es)
 unfolding history answers

@@ -14,7 +14,7 @@ use Rattle.tables.specs.declared.Undoing.TheVariants.{Return, Refund, Reversal}
 use Rattle.model.specs.Lookups.{Known, mandate_of, collection_of}
 use Rattle.model.specs.Lookups.Known.{unknown, known}
 use Rattle.fitness.specs.Fitness.{fit}
-use Rattle.model.specs.Step.{query, query_number, run}
+use Rattle.model.specs.Step.{answer_number, query, run}
 use Rattle.witness.specs.Opening.{event, answers}
 
 -- four rows of each
@@ -161,7 +161,7 @@ outside =
 
 abbrev pub AllRefused : Ledger → List Asking → Type 0
 AllRefused l [] = Unit {0}
-AllRefused l (q ∷ qs) = (query_number (query l q.kind q.number) ≡ 5) × AllRefused l qs
+AllRefused l (q ∷ qs) = (answer_number (query l q.kind q.number) ≡ 5) × AllRefused l qs
 
 abbrev pub OutsideRefused : Type 0
 OutsideRefused = (l : Ledger) → fit l ≡ true → AllRefused l outside

@@ -1,21 +1,20 @@
 -- Laws of a field at a place of a line or a buffer, specs/Field. To cite: `field_inside` and `put_inside` (where it has room); of a
--- buffer: `length_pasted`, `take_pasted` and `drop_written` (what stands before and behind stays), `take_line`, `pasted_pasted` (one
+-- buffer: `length_pasted`, `drop_written` (what stands before and behind stays), `take_line`, `pasted_pasted` (one
 -- piece behind the other); of a buffer written so far: `written_none`, `written_more`, `written_field`, `written_byte`,
 -- `written_length`. The rest serves the functions of this crate. Assumes nothing.
 use Rattle.std.proofs.Common.{None, Option, ℕ}
 use mathlib.Core.Path.{◌≡◌, refl, sym, ◌∙◌, ap}
-use mathlib.Core.Bool.{Bool, true, false, cond, ◌&&◌}
+use mathlib.Core.Bool.{false, cond, ◌&&◌}
 use mathlib.Core.List.{List, [], ◌∷◌, ◌++◌, append_assoc}
-use mathlib.Core.Logic.{⊎_elim}
 use Prim.Native.Nat.{ℕ, suc, ◌+◌, ◌-◌, ◌/◌, ◌≤◌, ◌<◌}
 use native.Mathlib.Nat.{add-zero}
 use native.Mathlib.Numerals.{add-one}
 use native.Mathlib.Omega.{arith}
-use borrow.Author.Tests.{le-leb, leb-true, ltb-true, ltb-false}
+use borrow.Author.Tests.{le-leb, ltb-false}
 use lib.Dec.{leb, ltb}
 use lib.ListN.{length, take, drop, set, length-append, length-drop, take-append-drop}
-use lib.Seq.{length-take-le, take-append-le, take-take, take_at, drop_at, drop-drop, drop-cons, set_split, take-set-le, lt-length-set, get_or-set_same, drop-set-lt}
-use Rattle.common.proofs.Tests.{and_halves, true_or_false}
+use lib.Seq.{length-take-le, take_at, drop_at, drop-drop, drop-cons, set_split, take-set-le, lt-length-set, get_or-set_same, drop-set-lt}
+use Rattle.common.proofs.Tests.{either, same_arms}
 use Rattle.digits.specs.Field.{blank, last_digit, signed_padded, signed_field, read_field, has_room, field_at, pasted, put_at}
 use Rattle.digits.proofs.Laws.Field.{signed_padded_none, signed_padded_more, length_signed_field}
 
@@ -30,17 +29,12 @@ module _ (at w : ℕ) (l : List ℕ) where
   pub field_outside : ltb 0 w && leb w 12 && has_room at w (length l) ≡ false → field_at at w l ≡ None
   unfolding field_at read_field
   field_outside e =
-      ⊎_elim
-      (λ (t : ltb 0 w ≡ true). rw (rw t at e))
-      (λ (t : ltb 0 w ≡ false).
+      either (ltb 0 w)
+      (λ t. rw (rw t at e))
+      (λ t.
       let z : w ≡ 0 = omega (arith, ltb-false 0 w t) in
       ap (λ (x : Option ℕ). cond (leb w 12 && has_room at w (length l)) x None) (ap (λ (n : ℕ). read_field (take n (drop at l))) z)
-      ∙ no_value (leb w 12 && has_room at w (length l)))
-      (true_or_false (ltb 0 w))
-    where
-      no_value : (b : Bool) → cond {A = Option ℕ} b None None ≡ None
-      no_value true = refl
-      no_value false = refl
+      ∙ same_arms (leb w 12 && has_room at w (length l)) None)
 
 module _ (at w s v : ℕ) (out : List ℕ) where
   pub put_inside : at + w ≤ length out → put_at at w s v out ≡ pasted at (signed_field w s v) out
@@ -50,18 +44,13 @@ module _ (at w s v : ℕ) (out : List ℕ) where
   pub put_outside : ltb 0 w && has_room at w (length out) ≡ false → put_at at w s v out ≡ out
   unfolding signed_field
   put_outside e =
-      ⊎_elim
-      (λ (t : ltb 0 w ≡ true). rw (rw t at e))
-      (λ (t : ltb 0 w ≡ false).
+      either (ltb 0 w)
+      (λ t. rw (rw t at e))
+      (λ t.
       let z : w ≡ 0 = omega (arith, ltb-false 0 w t) in
       ap (λ (l : List ℕ). cond (has_room at w (length out)) l out)
       (ap (λ (n : ℕ). pasted at (signed_field n s v) out) z ∙ ap (λ (n : ℕ). take at out ++ drop n out) (add-zero at) ∙ take-append-drop at out)
-      ∙ same (has_room at w (length out)))
-      (true_or_false (ltb 0 w))
-    where
-      same : (b : Bool) → cond b out out ≡ out
-      same true = refl
-      same false = refl
+      ∙ same_arms (has_room at w (length out)) out)
 
 -- ---- pasted
 
@@ -72,12 +61,6 @@ module _ (at : ℕ) (s out : List ℕ) where
       let b = length-drop (at + length s) out in
       length-append (take at out) (s ++ drop (at + length s) out)
       ∙ omega (arith, a, b, length-append s (drop (at + length s) out))
-
-  -- the bytes before stay
-  pub take_pasted : (k : ℕ) → k ≤ at → at ≤ length out → take k (pasted at s out) ≡ take k out
-  take_pasted k l h =
-      let a = length-take-le at out h in
-      take-append-le k (take at out) (s ++ drop (at + length s) out) (omega arith) ∙ take-take k at out l
 
   -- all that is written so far
   pub take_written : at ≤ length out → take (at + length s) (pasted at s out) ≡ take at out ++ s

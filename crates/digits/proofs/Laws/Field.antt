@@ -1,9 +1,9 @@
 -- Laws of a field, specs/Field. To cite: `length_signed_field`, `signed_field_digits` (the sign directly before the digits),
--- `read_field_field_bytes` and `field_bytes_read_field` (reading and writing undo each other), `read_field_narrow`. The rest serves the
+-- `read_field_field_bytes` and `field_bytes_read_field` (reading and writing undo each other). The rest serves the
 -- functions of this crate. Assumes nothing.
 use Rattle.std.proofs.Common.{None, Option, Some, ℕ}
 use mathlib.Core.Path.{◌≡◌, refl, sym, ◌∙◌, ap, subst}
-use mathlib.Core.Bool.{Bool, true, false, cond, ◌&&◌}
+use mathlib.Core.Bool.{Bool, true, false, cond, ◌&&◌, and-false}
 use mathlib.Core.List.{List, [], ◌∷◌, ◌++◌, append_assoc, append-nil}
 use mathlib.Core.Logic.{⊎_elim}
 use Prim.Native.Nat.{ℕ, zero, suc, ◌+◌, ◌-◌, ◌*◌, ◌/◌, ◌^◌, ◌≤◌, ◌<◌}
@@ -12,7 +12,7 @@ use native.Mathlib.Omega.{arith}
 use lib.Dec.{leb, ltb, eqb, lit<}
 use lib.ListN.{length, length-append}
 use borrow.Author.Tests.{leb-true, le-leb, lt-ltb, eqb-true, eqb-false, eq-eqb, ne_eqb}
-use Rattle.common.proofs.Tests.{never, and_halves, and_true, true_or_false, false_unless}
+use Rattle.common.proofs.Tests.{never, and_halves, and_true, either, false_unless}
 use Rattle.digits.specs.Field.{blank, zero_digit, last_digit, signed_padded, signed_field, field_bytes, is_digit, read_digits, read_number, read_field}
 
 -- ---- powers of ten
@@ -49,10 +49,9 @@ length_signed_padded : (w s v : ℕ) → length (signed_padded w s v) ≡ w
 unfolding signed_padded
 length_signed_padded zero s v = refl
 length_signed_padded (suc w) s v =
-    ⊎_elim
+    either (eqb v 0)
     (λ e. ap length (signed_padded_none w s v (eqb-true v 0 e)) ∙ length_last (signed_padded w blank v) s w (length_signed_padded w blank v))
     (λ e. ap length (signed_padded_more w s v (eqb-false v 0 e)) ∙ length_last (signed_padded w s (v / 10)) (last_digit v) w (length_signed_padded w s (v / 10)))
-    (true_or_false (eqb v 0))
 
 pub length_signed_field : (w s v : ℕ) → length (signed_field w s v) ≡ w
 unfolding signed_field
@@ -66,7 +65,7 @@ padded w v = signed_padded w blank v
 
 padded_last : (w v b : ℕ) → cond (eqb v 0) blank (last_digit v) ≡ b → padded (suc w) v ≡ padded w (v / 10) ++ (b ∷ [])
 padded_last w v b i =
-    ⊎_elim
+    either (eqb v 0)
     (λ e.
     let z : v ≡ v / 10 = omega (arith, eqb-true v 0 e) in
     signed_padded_none w blank v (eqb-true v 0 e)
@@ -75,7 +74,6 @@ padded_last w v b i =
     (λ e.
     signed_padded_more w blank v (eqb-false v 0 e)
     ∙ ap (λ (x : ℕ). padded w (v / 10) ++ (x ∷ [])) (ap (λ (t : Bool). cond t blank (last_digit v)) (sym e) ∙ i))
-    (true_or_false (eqb v 0))
 
 padded_more : (w v : ℕ) → 0 < v → padded (suc w) v ≡ padded w (v / 10) ++ (last_digit v ∷ [])
 padded_more w v h = signed_padded_more w blank v (λ e. omega arith)
@@ -143,15 +141,11 @@ last_digit_is_digit v =
 
 cond_value : (b : Bool) (x : Option ℕ) (v : ℕ) → cond b x None ≡ Some v → (b ≡ true) × (x ≡ Some v)
 cond_value true x v e = (refl, e)
-cond_value false x v e = let z : ◌≡◌ {A = ℕ} 0 1 = cc in absurd (omega arith)
+cond_value false x v e = absurd cc
 
 cond_no : (b : Bool) (x : Option ℕ) (v : ℕ) → cond b None x ≡ Some v → (b ≡ false) × (x ≡ Some v)
-cond_no true x v e = let z : ◌≡◌ {A = ℕ} 0 1 = cc in absurd (omega arith)
+cond_no true x v e = absurd cc
 cond_no false x v e = (refl, e)
-
-and_false : (b : Bool) → b && false ≡ false
-and_false true = refl
-and_false false = refl
 
 -- one digit more at the right edge
 read_digits_more : (u v b : ℕ) (bs : List ℕ)
@@ -242,7 +236,7 @@ read_number_more : (v d : ℕ) (l : List ℕ)
     → read_number l ≡ Some v
     → read_number (l ++ (d ∷ [])) ≡ Some (v * 10 + (d - zero_digit))
 unfolding read_number
-read_number_more v d [] h g e = let z : ◌≡◌ {A = ℕ} 0 1 = cc in absurd (omega arith)
+read_number_more v d [] h g e = absurd cc
 read_number_more v d (b ∷ bs) h g e =
     rw (read_number_leads v b bs h e)
     (read_digits_more 0 v d (b ∷ bs) g (cond_no (eqb b zero_digit && ltb 0 (length bs)) _ v e).1)
@@ -253,11 +247,10 @@ read_field_more : (v d : ℕ) (l : List ℕ)
     → read_field l ≡ Some v
     → read_field (l ++ (d ∷ [])) ≡ Some (v * 10 + (d - zero_digit))
 unfolding read_field
-read_field_more v d [] h g e = let z : ◌≡◌ {A = ℕ} 0 1 = cc in absurd (omega arith)
+read_field_more v d [] h g e = absurd cc
 read_field_more v d (b ∷ bs) h g e =
-    ⊎_elim (λ t. rw t (read_field_more v d bs h g (rw t at e)))
+    either (eqb b blank) (λ t. rw t (read_field_more v d bs h g (rw t at e)))
     (λ t. rw t (read_number_more v d (b ∷ bs) h g (rw t at e)))
-    (true_or_false (eqb b blank))
 
 -- blanks before a field are passed over
 read_field_blanks : (w : ℕ) (l : List ℕ) → read_field (padded w 0 ++ l) ≡ read_field l
@@ -269,7 +262,7 @@ pub read_field_digit : (d : ℕ) → is_digit d ≡ true → read_field (d ∷ [
 unfolding read_field read_number read_digits
 read_field_digit d g =
     let f = digit_facts d g in
-    rw (ne_eqb d blank (λ e. omega arith), g, and_false (eqb d zero_digit)) (ap Some (omega arith))
+    rw (ne_eqb d blank (λ e. omega arith), g, and-false (eqb d zero_digit)) (ap Some (omega arith))
 
 -- the digits of q and one more, d, with blanks before them
 module _ (w : ℕ) (above : (q : ℕ) → 0 < q → q < 10 ^ w → read_field (padded w q) ≡ Some q) where
@@ -336,12 +329,12 @@ reads_digits b v bs z e =
 
 read_number_reads : (b v : ℕ) (bs : List ℕ) → read_number (b ∷ bs) ≡ Some v → Reads (b ∷ bs) v
 read_number_reads b v bs e =
-    ⊎_elim (λ z. reads_zero b v bs z e) (λ z. reads_digits b v bs z e) (true_or_false (eqb b zero_digit))
+    either (eqb b zero_digit) (λ z. reads_zero b v bs z e) (λ z. reads_digits b v bs z e)
 
 -- a blank more
 reads_blank : (b v : ℕ) (bs : List ℕ) → b ≡ blank → read_field bs ≡ Some v → Reads bs v → Reads (b ∷ bs) v
 unfolding read_field
-reads_blank b v [] s e r = let z : ◌≡◌ {A = ℕ} 0 1 = cc in absurd (omega arith)
+reads_blank b v [] s e r = absurd cc
 reads_blank b v (x ∷ bs) s e r = record {
   bytes = field_bytes_wider (length bs) v r.narrow ∙ rw (r.bytes, s);
   narrow = let t = ten (suc (length bs)) in omega (arith, r.narrow);
@@ -349,17 +342,12 @@ reads_blank b v (x ∷ bs) s e r = record {
 
 read_field_reads : (l : List ℕ) (v : ℕ) → read_field l ≡ Some v → Reads l v
 unfolding read_field
-read_field_reads [] v e = let z : ◌≡◌ {A = ℕ} 0 1 = cc in absurd (omega arith)
+read_field_reads [] v e = absurd cc
 read_field_reads (b ∷ bs) v e =
-    ⊎_elim
+    either (eqb b blank)
     (λ t. reads_blank b v bs (eqb-true b blank t) (rw t at e) (read_field_reads bs v (rw t at e)))
     (λ t. read_number_reads b v bs (rw t at e))
-    (true_or_false (eqb b blank))
 
 -- writing what was read of a field gives its bytes
 pub field_bytes_read_field : (l : List ℕ) (v : ℕ) → read_field l ≡ Some v → field_bytes (length l) v ≡ l
 field_bytes_read_field l v e = (read_field_reads l v e).bytes
-
--- a field has no more digits than columns
-pub read_field_narrow : (l : List ℕ) (v : ℕ) → read_field l ≡ Some v → v < 10 ^ length l
-read_field_narrow l v e = (read_field_reads l v e).narrow

@@ -1,12 +1,11 @@
 -- Laws of specs/Words. To cite: `high_no`, `high_fits`, `high_yes` (the test for eight digits), `value_fits`, `value_pairs` (their number by
 -- pairs), `blanks_led`, `blanks_last` (a field of eight columns), `word_take` (eight bytes of a line, put together), `next_is` (one
--- column), `columns_none`, `columns_read` (columns that others follow), `last-..`, `eight_below` and `tail-..` (those to the right edge). Assumes
--- nothing.
+-- column), `columns_none`, `columns_read` (columns that others follow), `last_digit_lem`, `last_other`, `eight_below`, `tail_digits` and
+-- `tail_none` (those to the right edge). Assumes nothing.
 use Rattle.std.proofs.Common.{None, Option, Some, IfSome, ℕ}
 use mathlib.Core.Path.{◌≡◌, refl, sym, ap, ◌∙◌, subst}
-use mathlib.Core.Bool.{Bool, true, false, cond, not, ◌&&◌}
+use mathlib.Core.Bool.{Bool, true, false, cond, not, ◌&&◌, and-false, and_assoc}
 use mathlib.Core.List.{List, [], ◌∷◌, ◌++◌}
-use mathlib.Core.Logic.{⊎_elim}
 use Prim.Native.Nat.{ℕ, zero, suc, ◌+◌, ◌-◌, ◌*◌, ◌/◌, ◌%◌, ◌^◌, ◌≤◌, ◌<◌}
 use native.Mathlib.Nat.{pow-succ', pow-suc, one-le-pow, lt_of_le_of_lt}
 use native.Mathlib.Omega.{arith}
@@ -22,7 +21,7 @@ use Rattle.std.proofs.lemmas.Nat.{le_bytes_8}
 use Rattle.std.proofs.lemmas.List.{get_or-take, get_or-drop, get_or_past}
 use Rattle.std.proofs.Math.Nat.{div-div-eq-div-mul}
 use Rattle.common.proofs.Every.{below}
-use Rattle.common.proofs.Tests.{never, and_halves, true_or_false, not_true}
+use Rattle.common.proofs.Tests.{either, never, not_true, same_arms, and_halves}
 use Rattle.digits.specs.Field.{blank, zero_digit, is_digit, read_digits, read_number, read_field}
 use Rattle.digits.specs.Words.{bytes_of, are_digits, digits_from, led_by, onward, onward_of}
 use Rattle.digits.proofs.Laws.Field.{digit_facts, read_field_digit}
@@ -63,15 +62,13 @@ bytes_of_bytes (suc n) w = (omega arith, bytes_of_bytes n (w / 256))
 
 eqb_block : (x y a b : ℕ) → a < 256 → b < 256 → eqb (x * 256 + a) (y * 256 + b) ≡ eqb a b && eqb x y
 eqb_block x y a b ha hb =
-    ⊎_elim
-    (λ (p : eqb a b ≡ true).
+    either (eqb a b)
+    (λ p.
     let i = eqb-true a b p in
-    ⊎_elim
-    (λ (q : eqb x y ≡ true). let j = eqb-true x y q in rw (p, q) (eq-eqb (x * 256 + a) (y * 256 + b) (omega arith)))
-    (λ (q : eqb x y ≡ false). rw (p, q) (ne_eqb (x * 256 + a) (y * 256 + b) (λ e. eqb-false x y q (omega arith))))
-    (true_or_false (eqb x y)))
-    (λ (p : eqb a b ≡ false). rw p (ne_eqb (x * 256 + a) (y * 256 + b) (λ e. eqb-false a b p (omega arith))))
-    (true_or_false (eqb a b))
+    either (eqb x y)
+    (λ q. let j = eqb-true x y q in rw (p, q) (eq-eqb (x * 256 + a) (y * 256 + b) (omega arith)))
+    (λ q. rw (p, q) (ne_eqb (x * 256 + a) (y * 256 + b) (λ e. eqb-false x y q (omega arith)))))
+    (λ p. rw p (ne_eqb (x * 256 + a) (y * 256 + b) (λ e. eqb-false a b p (omega arith))))
 
 -- ---- the test for digits: the upper half of a byte, and of the byte with 6 added
 
@@ -125,11 +122,10 @@ high_digits : (bs : List ℕ) → Bytes bs → high_all bs ≡ false → are_dig
 unfolding high_all are_digits
 high_digits [] p e = absurd (never refl e)
 high_digits (b ∷ bs) p e =
-    ⊎_elim
-    (λ (t : high b ≡ true).
-    ⊎_elim (λ (d : is_digit b ≡ true). rw d (high_digits bs p.1 (rw t at e))) (λ (d : is_digit b ≡ false). rw d) (true_or_false (is_digit b)))
-    (λ (t : high b ≡ false). rw (digit_high b p.0 t))
-    (true_or_false (high b))
+    either (high b)
+    (λ t.
+    either (is_digit b) (λ d. rw d (high_digits bs p.1 (rw t at e))) (λ d. rw d))
+    (λ t. rw (digit_high b p.0 t))
 
 -- 6 added to each byte
 six : List ℕ → List ℕ
@@ -408,10 +404,6 @@ blanks_next zero bs = refl
 blanks_next (suc k) [] = refl
 blanks_next (suc k) (b ∷ bs) =
     ap (λ (t : Bool). eqb b blank && t) (blanks_next k bs) ∙ sym (and_assoc (eqb b blank) (are_blanks k bs) (are_blanks 1 (drop k bs)))
-  where
-    and_assoc : (a b c : Bool) → (a && b) && c ≡ a && (b && c)
-    and_assoc true b c = refl
-    and_assoc false b c = refl
 
 rep_fill : (k : ℕ) (l : List ℕ) → word_of (rep k blank l) + word_of (rep k 16 []) ≡ word_of (rep k zero_digit l)
 rep_fill zero l = omega arith
@@ -497,7 +489,7 @@ read_digits_is : (v : ℕ) (bs : List ℕ) → read_digits v bs ≡ cond (are_di
 unfolding read_digits are_digits digits_from
 read_digits_is v [] = refl
 read_digits_is v (b ∷ bs) =
-    ⊎_elim (λ (d : is_digit b ≡ true). rw d (read_digits_is (v * 10 + (b - zero_digit)) bs)) (λ (d : is_digit b ≡ false). rw d) (true_or_false (is_digit b))
+    either (is_digit b) (λ d. rw d (read_digits_is (v * 10 + (b - zero_digit)) bs)) (λ d. rw d)
 
 -- digits behind a number of w digits
 digits_below : (w v : ℕ) (bs : List ℕ) → v < 10 ^ w → are_digits bs ≡ true → digits_from v bs < 10 ^ (w + length bs)
@@ -539,33 +531,22 @@ number_led : (r : ℕ) (rs : List ℕ) → 0 < length rs → read_number (r ∷ 
 unfolding read_number
 number_led r rs h =
     rw (read_digits_is 0 (r ∷ rs), lt-ltb 0 (length rs) h)
-    (⊎_elim
-    (λ (t : are_digits (r ∷ rs) ≡ true).
-    ⊎_elim
-    (λ (z : eqb r zero_digit ≡ true).
+    (either (are_digits (r ∷ rs))
+    (λ t.
+    either (eqb r zero_digit)
+    (λ z.
     rw (z, t, lt-leb (10 ^ length rs) (digits_from 0 (r ∷ rs)) (lead_small r rs (eqb-true r zero_digit z) t)))
-    (λ (z : eqb r zero_digit ≡ false).
-    rw (z, t, le-leb (10 ^ length rs) (digits_from 0 (r ∷ rs)) (lead_large r rs (eqb-false r zero_digit z) t)))
-    (true_or_false (eqb r zero_digit)))
-    (λ (t : are_digits (r ∷ rs) ≡ false). rw t (never_value (eqb r zero_digit)))
-    (true_or_false (are_digits (r ∷ rs))))
-  where
-    never_value : (z : Bool) → cond {A = Option ℕ} (z && true) None None ≡ None
-    never_value true = refl
-    never_value false = refl
+    (λ z.
+    rw (z, t, le-leb (10 ^ length rs) (digits_from 0 (r ∷ rs)) (lead_large r rs (eqb-false r zero_digit z) t))))
+    (λ t. rw t (same_arms (eqb r zero_digit && true) None)))
 
 -- a single column, with a digit or not
 last_field : (r : ℕ) → read_field (r ∷ []) ≡ led_by 0 (r ∷ [])
 unfolding read_field read_number read_digits are_digits digits_from
 last_field r =
-    ⊎_elim (λ (e : eqb r blank ≡ true). rw (e, blank_no_digit r (eqb-true r blank e)))
-    (λ (e : eqb r blank ≡ false). rw (e, and_false (eqb r zero_digit)) (one (is_digit r)))
-    (true_or_false (eqb r blank))
+    either (eqb r blank) (λ e. rw (e, blank_no_digit r (eqb-true r blank e)))
+    (λ e. rw (e, and-false (eqb r zero_digit)) (one (is_digit r)))
   where
-    and_false : (b : Bool) → b && false ≡ false
-    and_false true = refl
-    and_false false = refl
-
     blank_no_digit : (b : ℕ) → b ≡ blank → is_digit b ≡ false
     blank_no_digit b e = rw e
 
@@ -578,10 +559,9 @@ unfolding are_blanks read_field
 rest_led [] n h e = absurd (omega arith)
 rest_led (r ∷ rs) n h e =
     let m : length rs ≡ suc n = omega arith in
-    ⊎_elim (λ (t : eqb r blank ≡ true). absurd (never (rw t) e))
-    (λ (t : eqb r blank ≡ false).
+    either (eqb r blank) (λ t. absurd (never (rw t) e))
+    (λ t.
     rw t (subst (λ (j : ℕ). read_number (r ∷ rs) ≡ led_by (10 ^ j) (r ∷ rs)) m (number_led r rs (omega arith))))
-    (true_or_false (eqb r blank))
 
 rest_last : (l : List ℕ) → length l ≡ 1 → read_field l ≡ led_by 0 l
 rest_last [] h = absurd (omega arith)
@@ -648,13 +628,12 @@ word_take l at n bs h small e f =
   where
     below : (i : ℕ) → get_or (take 8 (drop at l)) i 0 < 256
     below i =
-        ⊎_elim
-        (λ (t : ltb i 8 ≡ true). let p : i < 8 = ltb-true i 8 t in rw (get_or-take, get_or-drop) (small (at + i)))
-        (λ (t : ltb i 8 ≡ false).
+        either (ltb i 8)
+        (λ t. let p : i < 8 = ltb-true i 8 t in rw (get_or-take, get_or-drop) (small (at + i)))
+        (λ t.
         let m = length-take 8 (drop at l) in
         let p : length (take 8 (drop at l)) ≤ i = omega (arith, ltb-false i 8 t) in
         rw get_or_past (lit< tt))
-        (true_or_false (ltb i 8))
 
 -- ---- columns that others follow
 
@@ -667,20 +646,18 @@ onward_number v s n = rw (ne_eqb v 0 n)
 pub last_digit_lem : (v b : ℕ) → is_digit b ≡ true → onward v (b ∷ []) ≡ Some (v * 10 + (b - zero_digit))
 unfolding onward read_digits
 last_digit_lem v b d =
-    ⊎_elim
-    (λ (z : eqb v 0 ≡ true).
+    either (eqb v 0)
+    (λ z.
     let e = eqb-true v 0 z in
     rw (z, read_field_digit b d) (ap Some (omega arith)))
-    (λ (z : eqb v 0 ≡ false). rw (z, d))
-    (true_or_false (eqb v 0))
+    (λ z. rw (z, d))
 
 pub last_other : (v b : ℕ) → is_digit b ≡ false → onward v (b ∷ []) ≡ None
 unfolding onward read_digits are_digits
 last_other v b d =
-    ⊎_elim
-    (λ (z : eqb v 0 ≡ true). rw z (last_field b ∙ rw d))
-    (λ (z : eqb v 0 ≡ false). rw (z, d))
-    (true_or_false (eqb v 0))
+    either (eqb v 0)
+    (λ z. rw z (last_field b ∙ rw d))
+    (λ z. rw (z, d))
 
 -- a column that is a digit, and at least one behind it
 digit_next : (v b : ℕ) (s : List ℕ)
@@ -690,22 +667,20 @@ digit_next : (v b : ℕ) (s : List ℕ)
 unfolding onward read_field read_number read_digits
 digit_next v b s l d =
     let f = digit_facts b d in
-    ⊎_elim
-    (λ (z : eqb v 0 ≡ true).
+    either (eqb v 0)
+    (λ z.
     let e : v ≡ 0 = eqb-true v 0 z in
-    ⊎_elim
-    (λ (t : eqb b zero_digit ≡ true).
+    either (eqb b zero_digit)
+    (λ t.
     let q : v * 10 + (b - zero_digit) ≡ 0 = omega (arith, eqb-true b zero_digit t) in
     rw (z, q, ne_eqb b blank (λ i. omega arith), t, lt-ltb 0 (length s) l))
-    (λ (t : eqb b zero_digit ≡ false).
+    (λ t.
     let m : ¬ (b ≡ zero_digit) = eqb-false b zero_digit t in
     let q : v * 10 + (b - zero_digit) ≡ 0 + (b - zero_digit) = omega arith in
-    rw (z, q, ne_eqb b blank (λ i. omega arith), t, d, lt-ltb 0 (0 + (b - zero_digit)) (omega arith), ne_eqb (0 + (b - zero_digit)) 0 (λ i. omega arith)))
-    (true_or_false (eqb b zero_digit)))
-    (λ (z : eqb v 0 ≡ false).
+    rw (z, q, ne_eqb b blank (λ i. omega arith), t, d, lt-ltb 0 (0 + (b - zero_digit)) (omega arith), ne_eqb (0 + (b - zero_digit)) 0 (λ i. omega arith))))
+    (λ z.
     let m : ¬ (v ≡ 0) = eqb-false v 0 z in
     rw (z, d, lt-ltb 0 (v * 10 + (b - zero_digit)) (omega arith), ne_eqb (v * 10 + (b - zero_digit)) 0 (λ i. omega arith)))
-    (true_or_false (eqb v 0))
 
 other_next : (v b : ℕ) (s : List ℕ)
     → eqb v 0 && eqb b blank ≡ false
@@ -713,15 +688,10 @@ other_next : (v b : ℕ) (s : List ℕ)
     → onward v (b ∷ s) ≡ None
 unfolding onward read_field read_number read_digits
 other_next v b s n d =
-    ⊎_elim
-    (λ (z : eqb v 0 ≡ true).
-    rw (z, rw z at n, d) (nothing (eqb b zero_digit && ltb 0 (length s))))
-    (λ (z : eqb v 0 ≡ false). rw (z, d))
-    (true_or_false (eqb v 0))
-  where
-    nothing : (t : Bool) → cond {A = Option ℕ} t None None ≡ None
-    nothing true = refl
-    nothing false = refl
+    either (eqb v 0)
+    (λ z.
+    rw (z, rw z at n, d) (same_arms (eqb b zero_digit && ltb 0 (length s)) None))
+    (λ z. rw (z, d))
 
 -- what comes of a column b and those before it, which came to v
 abbrev pub next_of : ℕ → ℕ → Option ℕ
@@ -733,27 +703,23 @@ pub next_read : (v b : ℕ) (r : Option ℕ) → r ≡ next_of v b → (s : List
 unfolding onward read_field
 next_read v b r e s l =
     rw e
-    (⊎_elim
-    (λ (t : eqb v 0 && eqb b blank ≡ true). let p = and_halves (eqb v 0) t in rw (t, p.0, p.1))
-    (λ (t : eqb v 0 && eqb b blank ≡ false).
-    ⊎_elim
-    (λ (d : is_digit b ≡ true). rw (t, d) (digit_next v b s l d))
-    (λ (d : is_digit b ≡ false). rw (t, d) (other_next v b s t d))
-    (true_or_false (is_digit b)))
-    (true_or_false (eqb v 0 && eqb b blank)))
+    (either (eqb v 0 && eqb b blank)
+    (λ t. let p = and_halves (eqb v 0) t in rw (t, p.0, p.1))
+    (λ t.
+    either (is_digit b)
+    (λ d. rw (t, d) (digit_next v b s l d))
+    (λ d. rw (t, d) (other_next v b s t d))))
 
 -- a column more is a digit more
 pub next_within : (v b : ℕ) (r : Option ℕ) → r ≡ next_of v b → IfSome r (λ x. x < v * 10 + 10)
 next_within v b r e =
     rw e
-    (⊎_elim
-    (λ (t : eqb v 0 && eqb b blank ≡ true). rw t (omega arith))
-    (λ (t : eqb v 0 && eqb b blank ≡ false).
-    ⊎_elim
-    (λ (d : is_digit b && ltb 0 (v * 10 + (b - zero_digit)) ≡ true). let f = digit_facts b (and_halves (is_digit b) d).0 in rw (t, d) (omega arith))
-    (λ (d : is_digit b && ltb 0 (v * 10 + (b - zero_digit)) ≡ false). rw (t, d) tt)
-    (true_or_false (is_digit b && ltb 0 (v * 10 + (b - zero_digit)))))
-    (true_or_false (eqb v 0 && eqb b blank)))
+    (either (eqb v 0 && eqb b blank)
+    (λ t. rw t (omega arith))
+    (λ t.
+    either (is_digit b && ltb 0 (v * 10 + (b - zero_digit)))
+    (λ d. let f = digit_facts b (and_halves (is_digit b) d).0 in rw (t, d) (omega arith))
+    (λ d. rw (t, d) tt)))
 
 pub next_is : (v b : ℕ) (r : Option ℕ)
     → r ≡ next_of v b

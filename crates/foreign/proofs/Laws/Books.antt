@@ -6,11 +6,12 @@ use mathlib.Core.List.{List, [], ◌∷◌}
 use Prim.Native.Nat.{ℕ}
 use lib.IntN.{ℤ}
 use Rattle.refusals.specs.declared.Refusal.{Refusal}
+use Rattle.refusals.specs.Refusals.{number_of}
 use Rattle.tables.specs.declared.Header.{Header}
 use Rattle.tables.specs.Ledger.{Ledger, ledger}
-use Rattle.opening.specs.Opening.{OpenResult, open_number, open_result, opening, fresh}
+use Rattle.opening.specs.Opening.{OpenResult, open_result, opening, fresh}
 use Rattle.opening.proofs.Laws.Opening.{opening_refused, opened_done}
-use Rattle.replay.proofs.Laws.Replay.{was_opened, was_refused}
+use Rattle.model.proofs.Laws.Opened.{was_opened, was_refused}
 use Rattle.cells.specs.Cells.{cells_fit, header_in, fresh_header, fresh_state, fresh_cents, head_of}
 use Rattle.cells.proofs.Laws.Cells.{state_cells_fit_lem, fresh_state_lem, fresh_cents_lem}
 use Rattle.foreign.specs.Books.{OpenCall}
@@ -25,7 +26,7 @@ module _ (state : List ℕ) (cents : List ℤ) (l : Ledger) where
   -- l' is the ledger of the header that the opening leaves
   module _ (f : cells_fit state cents ≡ true) (l' : Ledger) where
     pub open_done :
-        open_result (open_number (Ok tt)) l' ≡ opening l
+        open_result 0 l' ≡ opening l
         → (state' : List ℕ) (cents' : List ℤ) → state' ≡ fresh_state state → cents' ≡ fresh_cents cents
         → OpenCall state cents l 0 state' cents' (under (header_in state' cents') l')
     unfolding fresh
@@ -44,11 +45,11 @@ module _ (state : List ℕ) (cents : List ℤ) (l : Ledger) where
               ∙ ap (under fresh_header) (w.is ∙ opened_done l w.sizes));
         }
 
-    pub open_left : (x : Refusal) → open_result (open_number (Err x)) l' ≡ opening l → (r : ℕ) → r ≡ open_number (Err x) → OpenCall state cents l r state cents (under (head_of l) l')
+    pub open_left : (x : Refusal) → open_result (number_of x) l' ≡ opening l → (r : ℕ) → r ≡ number_of x → OpenCall state cents l r state cents (under (head_of l) l')
     open_left x e r n =
         let w = was_refused l l' (Err x) e x refl in
         record {
-          answer_is = rw (f, w.sizes) (n ∙ ap (λ (o : OpenResult). o.number) (e ∙ opening_refused l w.sizes));
+          answer_is = rw (f, w.sizes) (n ∙ w.number);
           state_is = rw (f, w.sizes);
           cents_is = rw (f, w.sizes);
           book_is = rw (f, w.sizes) (ap (under (head_of l)) w.is);

@@ -9,7 +9,7 @@ use lib.ListN.{set}
 use Rattle.refusals.specs.declared.Refusal.{Refusal}
 use Rattle.tables.specs.Ledger.{Ledger}
 use Rattle.fitness.specs.Fitness.{fit}
-use Rattle.model.specs.Step.{in_query, figure_of, query, query_number}
+use Rattle.model.specs.Step.{answer_number, in_query, figure_of, query}
 use Rattle.book.specs.Events.{Queried}
 use Rattle.cells.specs.Cells.{cells_fit, figure_cents}
 use Rattle.foreign.specs.Queries.{QueryCall}
@@ -27,12 +27,12 @@ module _ (state : List ℕ) (cents : List ℤ) (l : Ledger) (kind number : ℕ) 
   pub query_done :
       cells_fit state cents ≡ true
       → (a : Result ℤ Refusal) → Queried l kind number a
-      → (r : ℕ) (cents' : List ℤ) → r ≡ query_number a → cents' ≡ figure_cents a cents
+      → (r : ℕ) (cents' : List ℤ) → r ≡ answer_number a → cents' ≡ figure_cents a cents
       → QueryCall state cents l kind number r cents'
   query_done f a q r cents' n z =
       let put = z ∙ ap (λ (x : Result ℤ Refusal). figure_cents x cents) q.answer_is in
       record {
-        answer_is = rw f (n ∙ ap query_number q.answer_is);
+        answer_is = rw f (n ∙ ap answer_number q.answer_is);
         cents_is = rw f put;
         number_is = rw f (n ∙ q.number_is);
         figure_is = rw f (put ∙ figure_put (fit l) (in_query kind number) refl refl);

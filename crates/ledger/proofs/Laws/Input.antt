@@ -1,11 +1,12 @@
 -- Laws of specs/Input. To cite: `taken_none`, `made_by`, `made_failed`, `taken_on`. Assumes nothing.
 use mathlib.Core.Path.{◌≡◌, refl, sym, ap, ◌∙◌, subst}
-use mathlib.Core.Bool.{Bool, true, false, ◌&&◌, ◌||◌}
+use mathlib.Core.Bool.{Bool, false, ◌&&◌, ◌||◌}
 use mathlib.Core.List.{List, [], ◌++◌}
 use Prim.Native.Nat.{ℕ, ◌+◌, ◌-◌, ◌≤◌, ◌<◌}
 use native.Mathlib.Nat.{zero-add}
 use native.Mathlib.Omega.{arith}
 use borrow.Author.Tests.{ltb-false}
+use Rattle.std.proofs.lemmas.Bool.{or_parts}
 use lib.Dec.{leb, ltb}
 use lib.ListN.{length, take, drop, length-append}
 use lib.Seq.{take-add, drop-nil}
@@ -28,14 +29,7 @@ use Rattle.ledger.specs.Input.{passes, Turned, InputTaken, InputMade}
 pub front_length : (x out : List ℕ) → length x ≤ length (pasted 0 x out)
 front_length x out = omega (arith, length-append x (drop (0 + length x) out))
 
-pub less_le : (a b : ℕ) → a < b → a ≤ b
-less_le a b h = omega (arith, h)
-
 -- ---- the whole input
-
-or_false : (a b : Bool) → a || b ≡ false → a ≡ false
-or_false true b e = e
-or_false false b e = refl
 
 none_of : (n : ℕ) → ltb 0 n ≡ false → n ≡ 0
 none_of n e = omega (arith, ltb-false 0 n e)
@@ -96,8 +90,7 @@ module _ (l₀ l : Ledger) (p : Stage) (text : List ℕ) (a : InputTaken (run_at
 
     module _ (going : p.beyond ≡ false) where
       few : lines_past 0 a.input ≡ 0
-      few =
-          none_of (lines_past 0 a.input) (or_false (ltb 0 (lines_past 0 a.input)) _ (sym a.past_is ∙ going))
+      few = none_of _ (or_parts (ltb 0 (lines_past 0 a.input)) _ (sym a.past_is ∙ going)).0
 
       lines_are : p.lines ≡ length (answered_lines 0 a.input)
       lines_are =

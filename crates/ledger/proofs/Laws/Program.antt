@@ -1,28 +1,26 @@
--- Laws of specs/Program. To cite: `begins_opened`, `rows_lent`; `listing_taken`, `last_total`, `finished_made`; `room_after`,
--- `shown_after`. Assumes nothing.
+-- Laws of specs/Program. To cite: `begins_opened`, `rows_lent`, `listing_taken`, `room_after`, `shown_after`. Assumes nothing.
 use Rattle.std.proofs.Common.{Ok, Err, Result, IfOk}
 use mathlib.Core.Path.{◌≡◌, refl, sym, ap, subst, ◌∙◌}
 use mathlib.Core.Bool.{Bool, true, false, cond}
-use mathlib.Core.List.{List, [], ◌++◌, append-nil}
+use mathlib.Core.List.{List, [], ◌++◌}
 use Prim.Native.Nat.{ℕ, ◌+◌, ◌-◌, ◌/◌, ◌≤◌}
+use native.Mathlib.Nat.{le_of_lt}
 use native.Mathlib.Omega.{arith}
 use borrow.Author.Tests.{le-leb}
 use borrow.Author.Rules.{part_to_end}
-use borrow.Rule.Slice.PartMut.{put_mid, Post-is}
 use lib.Dec.{leb}
-use lib.IntN.{ℤ}
-use lib.ListN.{length, take, drop, replicate, length-replicate, length-append, length-drop}
-use lib.Seq.{take-append_seam, drop-length, drop-drop, length-take-le}
-use Rattle.common.proofs.Tests.{true_unless, and_true}
+use lib.ListN.{length, take, drop, replicate, length-replicate, length-drop}
+use lib.Seq.{take-append_seam, length-take-le}
+use Rattle.common.proofs.Tests.{and_true}
 use Rattle.digits.specs.Field.{pasted}
 use Rattle.tables.specs.Limits.{stride}
 use Rattle.tables.specs.Rows.{rows}
 use Rattle.tables.specs.Ledger.{Ledger}
-use Rattle.fitness.specs.Fitness.{fit, sizes_fit}
-use Rattle.opening.specs.Opening.{OpenResult, open_number, open_result, opening}
-use Rattle.opening.proofs.Laws.Opening.{opening_done, opened_done}
-use Rattle.model.specs.Step.{in_query, query, query_number}
-use Rattle.model.proofs.Laws.Answers.{query_answers, opening_answers}
+use Rattle.fitness.specs.Fitness.{fit}
+use Rattle.refusals.specs.Refusals.{answer_number}
+use Rattle.opening.specs.Opening.{open_result, opening}
+use Rattle.model.proofs.Laws.Answers.{query_facts}
+use Rattle.model.proofs.Laws.Opened.{was_opened}
 use Rattle.listing.specs.declared.ending.Ending.{Ending}
 use Rattle.report.specs.Layout.{answer_length, answer_line}
 use Rattle.listing.specs.Listing.{end_fits, ended, EndTaken, listing_room, listed, Listed}
@@ -30,14 +28,11 @@ use Rattle.run.specs.Run.{Run, run_at, take_text, ends_line, end_bytes, end_outp
 use Rattle.run.specs.Lines.{answered_lines}
 use Rattle.run.specs.Promises.{TextKept}
 use Rattle.run.proofs.Laws.Lines.{line_by_line}
-use Rattle.digits.proofs.Laws.Buffer.{pasted_pasted}
 use Rattle.report.proofs.Laws.Layout.{length_answer_line}
-use Rattle.run.proofs.Laws.Positions.{length_positions_output}
 use Rattle.listing.proofs.Laws.Listing.{listed_is}
 use Rattle.run.proofs.Laws.Program.{program_kept}
 use Rattle.ledger.specs.Input.{InputTaken}
 use Rattle.ledger.specs.Program.{mandate_rows, collection_rows, Begins, LastRoom, last_output, Finished, Shown}
-use Rattle.ledger.proofs.Laws.Input.{front_length, less_le}
 use Rattle.refusals.specs.declared.Refusal.{Refusal}
 use Rattle.streams.specs.declared.StreamFailed.{StreamFailed}
 
@@ -45,21 +40,14 @@ use Rattle.streams.specs.declared.StreamFailed.{StreamFailed}
 
 -- the tables t were opened
 pub begins_opened : (t l : Ledger) (answer : Result Unit Refusal)
-    → open_result (open_number answer) l ≡ opening t
+    → open_result (answer_number answer) l ≡ opening t
     → answer ≡ (Ok tt)
     → rows t.mandates ≡ mandate_rows
     → rows t.collections ≡ collection_rows
     → Begins l
 begins_opened t l answer e a m c =
-    let n : ◌≡◌ {A = ℕ} (cond (sizes_fit t) 0 2) 0 = sym (opening_answers t) ∙ sym (ap (λ (o : OpenResult). o.number) e) ∙ ap open_number a in
-    let fits : sizes_fit t ≡ true = true_unless (sizes_fit t) (λ f. let z : ◌≡◌ {A = ℕ} 2 0 = rw f at n in omega arith) in
-    record {
-      tables = t;
-      accepted = fits;
-      is_opened = ap (λ (o : OpenResult). o.after) (e ∙ opening_done t fits) ∙ sym (opened_done t fits);
-      mandates = m;
-      collections = c;
-    }
+    let w = was_opened t l answer e a in
+    record { tables = t; accepted = w.sizes; is_opened = w.is; mandates = m; collections = c }
 
 -- rows of zeros
 pub rows_lent : (n : ℕ) → rows (replicate n 0) ≡ n / stride
@@ -82,15 +70,9 @@ module _ (l : Ledger) (lines partial : ℕ) (out : List ℕ) (h : LastRoom l out
   end_taken : e ≡ Ok (ended lines partial)
   end_taken = rw ends at t.answer_is
 
-  answered_is : out' ≡ pasted 0 (end_bytes lines partial) out
-  answered_is = rw ends at t.out_is
-
   module _ (end : Ending) (is : e ≡ Ok end) where
     written_is : end.written ≡ length (end_bytes lines partial)
     written_is = ap (λ (r : Ending). r.written) (let same : end ≡ ended lines partial = cc end_taken in same)
-
-    last_inside : end.written ≤ length out'
-    last_inside = omega (arith, written_is, ap length answered_is, front_length (end_bytes lines partial) out)
 
     module _ (same : length out' ≡ length out) (r : Result ℕ Refusal) (part : List ℕ) (s : Listed l (take (length out' - end.written) (drop end.written out')) r part) where
       abbrev behind : List ℕ
@@ -112,35 +94,6 @@ module _ (l : Ledger) (lines partial : ℕ) (out : List ℕ) (h : LastRoom l out
       pub listing_taken : r ≡ Ok (length (positions_output l))
       listing_taken = rw listing_fits at taken.answer_is
 
-      part_is : part ≡ pasted 0 (positions_output l) behind
-      part_is = rw listing_fits at taken.out_is
-
-      module _ (bytes : ℕ) (b : r ≡ Ok bytes) where
-        bytes_are : bytes ≡ length (positions_output l)
-        bytes_are = cc listing_taken
-
-        pub last_total : end.written + bytes ≤ answer_length + listing_room
-        last_total = omega (arith, written_is, last_short lines partial, bytes_are, length_positions_output l)
-
-        -- the buffer with the listing behind the answer
-        pub finished_made : Finished l lines partial out (end.written + bytes) (put_mid end.written (length out' - end.written) out' part)
-        finished_made =
-            let x = end_bytes lines partial in
-            let y = positions_output l in
-            let z : length x ≡ 0 + length x = omega arith in
-            let w : 0 + length y ≡ length y = omega arith in
-            record {
-              bytes_are = ap (λ (n : ℕ). n + bytes) written_is ∙ ap (λ (n : ℕ). length x + n) bytes_are ∙ sym (length-append x y);
-              out_is =
-                  ap (λ (z : List ℕ). take end.written out' ++ (part ++ z)) (Post-is end.written (length out') out' last_inside ∙ drop-length out')
-                  ∙ ap (λ (z : List ℕ). take end.written out' ++ z) (append-nil part ∙ part_is)
-                  ∙ ap (λ (z : List ℕ). take end.written out' ++ (y ++ z)) (ap (λ (n : ℕ). drop n behind) w ∙ drop-drop (length y) end.written out')
-                  ∙ ap (λ (n : ℕ). pasted n y out') written_is
-                  ∙ ap (pasted (length x) y) answered_is
-                  ∙ ap (λ (n : ℕ). pasted n y (pasted 0 x out)) z
-                  ∙ pasted_pasted 0 x out y (omega arith);
-            }
-
 module _ (l : Ledger) (lines partial : ℕ) (out : List ℕ) (bytes : ℕ) (out' : List ℕ) (f : Finished l lines partial out bytes out') where
   finished_front : take bytes out' ≡ last_output l lines partial
   finished_front =
@@ -152,12 +105,6 @@ module _ (l : Ledger) (lines partial : ℕ) (out : List ℕ) (bytes : ℕ) (out'
 text_kept : (l : Ledger) → Begins l → (input : List ℕ) → TextKept l (answered_lines 0 input) (take_text (run_at l 0 []) input)
 text_kept l b input = rw b.is_opened (program_kept b.tables b.accepted input)
 
--- a ledger that answers a query is fit
-answers_fit : (l : Ledger) (kind number : ℕ) (z : ℤ) → query l kind number ≡ Ok z → fit l ≡ true
-answers_fit l kind number z e =
-    let n : ◌≡◌ {A = ℕ} (cond (fit l) (cond (in_query kind number) 0 5) 2) 0 = sym (query_answers l kind number).number_is ∙ ap query_number e in
-    true_unless (fit l) (λ f. let x : ◌≡◌ {A = ℕ} 2 0 = rw f at n in omega arith)
-
 module _ (l l' : Ledger) (lines partial : ℕ) (past : Bool) (text : List ℕ) (b : Begins l) (t : InputTaken (run_at l 0 []) l' lines partial past text) where
   book_is : l' ≡ (take_text (run_at l 0 []) t.input).book
   book_is = ap (λ (r : Run). r.book) t.run_is
@@ -165,13 +112,13 @@ module _ (l l' : Ledger) (lines partial : ℕ) (past : Bool) (text : List ℕ) (
   pub room_after : (out : List ℕ) → answer_length + listing_room ≤ length out → LastRoom l' out
   room_after out h =
       let e = (line_by_line l 0 t.input).after in
-      let f = answers_fit _ 4 0 _ ((text_kept l b t.input).all_kept.figures 4 0 refl) in
-      record { fits = ap fit (book_is ∙ e) ∙ f; room = h }
+      let f = query_facts _ 4 0 _ ((text_kept l b t.input).all_kept.figures 4 0 refl) in
+      record { fits = ap fit (book_is ∙ e) ∙ f.0; room = h }
 
   -- the bytes of the partial line
   last_is : end_bytes lines partial ≡ end_output (take_text (run_at l 0 []) t.input)
   last_is =
-      ap (end_bytes lines) (sym (length-take-le partial text (less_le _ _ t.room)))
+      ap (end_bytes lines) (sym (length-take-le partial text (le_of_lt t.room)))
       ∙ ap end_output t.run_is
 
   pub shown_after : (out : List ℕ) (r : Result ℕ StreamFailed) (out' : List ℕ)

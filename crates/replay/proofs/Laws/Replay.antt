@@ -1,30 +1,26 @@
 -- Laws of specs/Replay: how far a replay has come. To cite: `Running` with `running_start`, `running_step`;
 -- `replayed_refused`, `replayed_done`. Assumes nothing.
-use Rattle.std.proofs.Common.{Err, Ok, Result}
+use Rattle.std.proofs.Common.{Err, Ok, Result, ℕ, zero, suc, ◌*◌, ◌<◌, get_or, take, drop}
 use mathlib.Core.Path.{◌≡◌, refl, sym, ap, ◌∙◌}
-use mathlib.Core.Bool.{true, false}
-use mathlib.Core.Logic.{⊎_elim}
-use mathlib.Core.List.{List, []}
+use mathlib.Core.List.{List, [], ◌∷◌}
 use Rattle.std.proofs.Math.Nat.{zero-mul, suc-mul}
 use Rattle.std.specs.Simd.{first_chunks}
 use Rattle.std.proofs.lemmas.List.{drop-drop}
-use Rattle.std.proofs.Common.{ℕ, zero, suc, ◌*◌, ◌<◌, get_or, take, drop}
 use Prim.Native.Nat.{◌+◌, ◌/◌}
 use native.Mathlib.Numerals.{add-one}
 use native.Mathlib.Omega.{arith}
 use lib.ListN.{length}
-use Rattle.common.proofs.Tests.{never, true_or_false}
+use Rattle.common.proofs.Tests.{never}
 use Rattle.refusals.specs.declared.Refusal.{Refusal}
-use Rattle.refusals.proofs.Laws.Refusals.{number_of_pos}
+use Rattle.refusals.specs.Refusals.{answer_number}
 use Rattle.events.specs.declared.Event.{Event}
 use Rattle.events.specs.Fields.{event_of}
 use Rattle.tables.specs.Ledger.{Ledger}
-use Rattle.fitness.specs.Fitness.{sizes_fit}
-use Rattle.opening.specs.Opening.{OpenResult, open_number, open_result, fresh, opened, opening}
-use Rattle.opening.proofs.Laws.Opening.{opening_done, opening_refused, opened_done}
+use Rattle.opening.specs.Opening.{open_result, opening}
 use Rattle.model.specs.Step.{after, run}
 use Rattle.model.specs.Bounds.{Safe}
-use Rattle.model.proofs.Laws.Batch.{after_safe, run_more, opened_safe}
+use Rattle.model.proofs.Laws.Batch.{after_safe, run_both}
+use Rattle.model.proofs.Laws.Opened.{was_opened, was_refused}
 use Rattle.model.proofs.Laws.Theorem.{demand3}
 use Rattle.book.specs.Events.{Taken}
 use Rattle.replay.specs.Replay.{event_cells, event_at, events_to, events_in, Replayed}
@@ -53,7 +49,7 @@ unfolding events_to run
 running_start events l s = record { safe = s; is = refl }
 
 pub running_step : (events : List ℕ) (l₀ l l' : Ledger) (i : ℕ) (e : Event) (r : Result Unit Refusal) → Running events l₀ l i → e ≡ event_at events i → Taken l e r l' → Running events l₀ l' (i + 1)
-unfolding events_to
+unfolding events_to run
 running_step events l₀ l l' i e r h q t =
     record {
       safe = rw t.after_is (after_safe l e h.safe);
@@ -61,67 +57,23 @@ running_step events l₀ l l' i e r h q t =
           t.after_is
           ∙ ap (λ (x : Event). after l x) q
           ∙ ap (λ (x : Ledger). after x (event_at events i)) h.is
-          ∙ sym (run_more (events_to events i) l₀ (event_at events i))
+          ∙ sym (run_both (events_to events i) (event_at events i ∷ []) l₀)
           ∙ ap (λ (n : ℕ). run l₀ (events_to events n)) (sym (add-one i));
     }
-
--- ---- what an opening says
-
--- the parts of an opening's outcome
-opening_number : (n : ℕ) (l l' : Ledger) → open_result n l' ≡ opening l → (n ≡ (opening l).number) × (l' ≡ (opening l).after)
-opening_number n l l' e = (ap (λ (o : OpenResult). o.number) e, ap (λ (o : OpenResult). o.after) e)
-
-module _ (l l' : Ledger) (a : Result Unit Refusal) (e : open_result (open_number a) l' ≡ opening l) where
-  -- what an accepted opening says
-  pub record WasOpened : Type 0 where
-    pub sizes : sizes_fit l ≡ true
-    pub is : l' ≡ opened l
-    pub safe : Safe l'
-
-  -- what a refused one says
-  pub record WasRefused : Type 0 where
-    pub sizes : sizes_fit l ≡ false
-    pub is : l' ≡ l
-
-  parts : (n : ℕ) (m : Ledger) → opening l ≡ open_result n m → (open_number a ≡ n) × (l' ≡ m)
-  parts n m o =
-      let p = opening_number (open_number a) l l' e in
-      (p.0 ∙ ap (λ (x : OpenResult). x.number) o, p.1 ∙ ap (λ (x : OpenResult). x.after) o)
-
-  pub was_opened : a ≡ (Ok tt) → WasOpened
-  was_opened o =
-      let n = ap open_number o in
-      ⊎_elim
-      (λ (z : sizes_fit l ≡ true).
-      let p = parts 0 (fresh l) (opening_done l z) in
-      let i = p.1 ∙ sym (opened_done l z) in
-      record { sizes = z; is = i; safe = rw i (opened_safe l z) })
-      (λ (z : sizes_fit l ≡ false). let p = parts 2 l (opening_refused l z) in absurd (omega arith))
-      (true_or_false (sizes_fit l))
-
-  pub was_refused : (r : Refusal) → a ≡ Err r → WasRefused
-  was_refused r o =
-      let n = ap open_number o in
-      let h = number_of_pos r in
-      ⊎_elim
-      (λ (z : sizes_fit l ≡ true). let p = parts 0 (fresh l) (opening_done l z) in absurd (omega arith))
-      (λ (z : sizes_fit l ≡ false). let p = parts 2 l (opening_refused l z) in record { sizes = z; is = p.1 })
-      (true_or_false (sizes_fit l))
 
 -- ---- the whole call
 
 module _ (l : Ledger) (events : List ℕ) where
-  pub replayed_refused : (r : Result Unit Refusal) (l' : Ledger) (x : Refusal) → r ≡ Err x → open_result (open_number r) l' ≡ opening l → Replayed l (events_in events) r l'
+  pub replayed_refused : (r : Result Unit Refusal) (l' : Ledger) (x : Refusal) → r ≡ Err x → open_result (answer_number r) l' ≡ opening l → Replayed l (events_in events) r l'
   replayed_refused r l' x q e =
       let w = was_refused l l' r e x q in
-      let p = parts l l' r e 2 l (opening_refused l w.sizes) in
       record {
-        answer = rw w.sizes p.0;
+        answer = rw w.sizes w.number;
         after = rw w.sizes w.is;
         kept = λ z. absurd (never z w.sizes);
       }
 
-  pub replayed_done : (r : Result Unit Refusal) (l' l'' : Ledger) → r ≡ (Ok tt) → open_result (open_number r) l' ≡ opening l → l'' ≡ run l' (events_in events) → Replayed l (events_in events) (Ok tt) l''
+  pub replayed_done : (r : Result Unit Refusal) (l' l'' : Ledger) → r ≡ (Ok tt) → open_result (answer_number r) l' ≡ opening l → l'' ≡ run l' (events_in events) → Replayed l (events_in events) (Ok tt) l''
   replayed_done r l' l'' o e q =
       let w = was_opened l l' r e o in
       record {

@@ -16,7 +16,7 @@ use lib.Dec.{leb}
 use lib.ListN.{length, take, drop, get_or, length-take, length-drop}
 use lib.Seq.{length-take-le, get_or-take, get_or-drop}
 use Rattle.common.specs.Walk.{first_from}
-use Rattle.common.proofs.Tests.{never, true_or_false, false_unless}
+use Rattle.common.proofs.Tests.{never, either, false_unless}
 use Rattle.common.proofs.Walk.{first_from_hit, first_from_miss, first_from_end, cases_from}
 use Rattle.lines.specs.Line.{line_end}
 use Rattle.report.specs.Cut.{ends_at, end_from, is_none, is_at, IsFirstEnd}
@@ -57,21 +57,15 @@ module _ (text : List ℕ) (from : ℕ) where
   end_from_at k e =
       end_from_cases (λ (a : Option ℕ). a ≡ Some k → FirstEnd text from k)
       (λ i f q. let p : i ≡ k = cc in rw (← p) f)
-      (λ none q. absurd (no_at q))
+      (λ none q. absurd cc)
       e
-    where
-      no_at : None ≡ Some k → ⊥
-      no_at q = let z : ◌≡◌ {A = ℕ} 0 1 = cc in absurd (omega arith)
 
   pub end_from_none : end_from text from ≡ None → (j : ℕ) → from ≤ j → j < length text → get_or text j 0 ≢ line_end
   end_from_none e =
       end_from_cases (λ (a : Option ℕ). a ≡ None → (j : ℕ) → from ≤ j → j < length text → get_or text j 0 ≢ line_end)
-      (λ k f q. absurd (no_end k q))
+      (λ k f q. absurd cc)
       (λ none q. none)
       e
-    where
-      no_end : (k : ℕ) → Some k ≡ None → ⊥
-      no_end k q = let z : ◌≡◌ {A = ℕ} 0 1 = cc in absurd (omega arith)
 
   pub end_from_first : (k : ℕ) → FirstEnd text from k → end_from text from ≡ Some k
   end_from_first k f =
@@ -81,14 +75,13 @@ module _ (text : List ℕ) (from : ℕ) where
     where
       same : (i : ℕ) → FirstEnd text from i → i ≡ k
       same i g =
-          ⊎_elim
-          (λ (h : leb k i ≡ true).
+          either (leb k i)
+          (λ h.
           ⊎_elim
           (λ (e : k ≡ i). sym e)
           (λ (l : k < i). absurd (g.none_before k f.onward l f.ends))
           (eq-or-lt_of_le (leb-true k i h)))
-          (λ (h : leb k i ≡ false). absurd (f.none_before i g.onward (leb-false k i h) g.ends))
-          (true_or_false (leb k i))
+          (λ h. absurd (f.none_before i g.onward (leb-false k i h) g.ends))
 
 module _ (text : List ℕ) (from : ℕ) where
   pub end_from_no : ((j : ℕ) → from ≤ j → j < length text → get_or text j 0 ≢ line_end) → end_from text from ≡ None
@@ -144,9 +137,8 @@ module _ (text : List ℕ) (from k : ℕ) (h : from + k ≤ length text) (none :
   -- none from the place behind them on, so none at all
   none_at_all : ((j : ℕ) → from + k ≤ j → j < length text → get_or text j 0 ≢ line_end) → (j : ℕ) → from ≤ j → j < length text → get_or text j 0 ≢ line_end
   none_at_all f j lo hi =
-      ⊎_elim (λ (e : leb (from + k) j ≡ true). f j (leb-true (from + k) j e) hi)
-      (λ (e : leb (from + k) j ≡ false). endless_before j lo (leb-false (from + k) j e))
-      (true_or_false (leb (from + k) j))
+      either (leb (from + k) j) (λ e. f j (leb-true (from + k) j e) hi)
+      (λ e. endless_before j lo (leb-false (from + k) j e))
 
   pub end_from_past : end_from text (from + k) ≡ end_from text from
   end_from_past =
@@ -159,9 +151,8 @@ module _ (text : List ℕ) (from k : ℕ) (h : from + k ≤ length text) (none :
         inside = f.inside;
         ends = f.ends;
         none_before = λ j lo hi.
-            ⊎_elim (λ (e : leb (from + k) j ≡ true). f.none_before j (leb-true (from + k) j e) hi)
-            (λ (e : leb (from + k) j ≡ false). endless_before j lo (leb-false (from + k) j e))
-            (true_or_false (leb (from + k) j));
+            either (leb (from + k) j) (λ e. f.none_before j (leb-true (from + k) j e) hi)
+            (λ e. endless_before j lo (leb-false (from + k) j e));
       })))
       (λ g.
       end_from_cases text from (λ (a : Option ℕ). None ≡ a) (λ i f. absurd (none_at_all g i f.onward f.inside f.ends)) (λ n. refl))
@@ -191,15 +182,14 @@ endless_none text e =
 -- one byte more that ends no line
 pub none_step : (text : List ℕ) (i : ℕ) (none : Bool) → i < length text → (none && not (ends_at text i)) && is_none (end_from text (i + 1)) ≡ none && is_none (end_from text i)
 none_step text i none h =
-    ⊎_elim
-    (λ (e : ends_at text i ≡ true).
+    either (ends_at text i)
+    (λ e.
     let f : end_from text i ≡ Some i = sym (end_from_walk text i) ∙ first_from_hit (ends_at text) Some None i (length text) h e in
     rw (e, f, and-false none))
-    (λ (e : ends_at text i ≡ false).
+    (λ e.
     let f : end_from text i ≡ end_from text (i + 1) =
     sym (end_from_walk text i) ∙ first_from_miss (ends_at text) Some None i (length text) h e ∙ end_from_walk text (i + 1) in
     rw (e, f, and-true none))
-    (true_or_false (ends_at text i))
 
 pub none_end : (text : List ℕ) (i : ℕ) (none : Bool) → length text ≤ i → none ≡ none && is_none (end_from text i)
 none_end text i none h =
@@ -221,16 +211,15 @@ module _ (text : List ℕ) (from k : ℕ) where
   pub none_before_is : from + k < length text → get_or text (from + k) 0 ≡ line_end → is_none (end_from (take (from + k - from) (drop from text)) 0) ≡ is_at (from + k) (end_from text from)
   none_before_is h g =
       let part = take (from + k - from) (drop from text) in
-      ⊎_elim
-      (λ (e : is_none (end_from part 0) ≡ true).
+      either (is_none (end_from part 0))
+      (λ e.
       let f : end_from text from ≡ Some (from + k) = end_from_behind text from k (omega arith) (is_none_endless part e) h g in
       rw (e, f) (sym (eq-eqb (from + k) (from + k) refl)))
-      (λ (e : is_none (end_from part 0) ≡ false).
+      (λ e.
       e
       ∙ sym
       (false_unless (is_at (from + k) (end_from text from))
       (λ q. never (endless_none part (part_endless (end_from_at text from (from + k) (is_at_true (from + k) (end_from text from) q)))) e)))
-      (true_or_false (is_none (end_from part 0)))
     where
       part_endless : FirstEnd text from (from + k) → Endless (take (from + k - from) (drop from text))
       part_endless f j l q =
@@ -245,11 +234,10 @@ endless_parts n text = prefix_len (λ part. is_none (end_from part 0)) (first_ch
 pub parts_past : (n : ℕ) (text : List ℕ) → n * 16 ≤ length text → end_from text (16 * endless_parts n text) ≡ end_from text 0
 parts_past zero text h = refl
 parts_past (suc n) text h =
-    ⊎_elim
-    (λ (e : is_none (end_from (take 16 text) 0) ≡ true).
+    either (is_none (end_from (take 16 text) 0))
+    (λ e.
     let d = length-drop 16 text in
     let q : 16 * (1 + endless_parts n (drop 16 text)) ≡ 16 + 16 * endless_parts n (drop 16 text) = omega arith in
     rw (e, q, end_from_drop text 16 (16 * endless_parts n (drop 16 text)) (omega arith), parts_past n (drop 16 text) (omega arith))
     (sym (end_from_drop text 16 0 (omega arith)) ∙ end_from_past text 0 16 (omega arith) (is_none_endless (take 16 text) e)))
-    (λ (e : is_none (end_from (take 16 text) 0) ≡ false). rw e)
-    (true_or_false (is_none (end_from (take 16 text) 0)))
+    (λ e. rw e)

@@ -2,23 +2,23 @@
 use Rattle.std.proofs.Common.{Err, Ok, Result}
 use mathlib.Core.Path.{◌≡◌, refl, sym, ap, ◌∙◌}
 use mathlib.Core.Bool.{Bool, true, false}
-use mathlib.Core.Logic.{⊎_elim}
 use mathlib.Core.List.{List, [], ◌∷◌, ◌++◌}
-use Prim.Native.Nat.{ℕ, zero, suc, ◌+◌, ◌-◌}
-use native.Mathlib.Nat.{add-zero}
+use Prim.Native.Nat.{ℕ, ◌+◌, ◌-◌}
+use native.Mathlib.Nat.{add-zero, sub-eq-zero_of_le}
 use native.Mathlib.Omega.{arith}
-use borrow.Author.Tests.{ltb-true, ltb-false, lt-ltb, ne_eqb}
+use borrow.Author.Tests.{ltb-true, ltb-false, lt-ltb}
 use lib.Dec.{eqb, ltb}
 use lib.ListN.{length, take, length-take}
-use Rattle.common.proofs.Tests.{true_or_false}
-use Rattle.common.proofs.Walk.{one_more, none_left}
+use lib.Seq.{take-nil}
+use Rattle.common.proofs.Tests.{either}
+use Rattle.common.proofs.Walk.{one_more}
 use Rattle.refusals.specs.declared.Refusal.{Refusal}
-use Rattle.refusals.specs.Refusals.{number_of}
-use Rattle.refusals.proofs.Laws.Refusals.{number_of_pos}
 use Rattle.events.specs.declared.Event.{Event}
 use Rattle.lines.specs.Line.{line_end, read_line}
 use Rattle.tables.specs.Ledger.{Ledger}
-use Rattle.model.specs.Step.{answer_number, is_accepted, answer, after, run, Entry, entry, history}
+use Rattle.model.proofs.Laws.Answers.{accepted_number}
+use Rattle.model.proofs.Laws.Batch.{run_both}
+use Rattle.model.specs.Step.{answer_number, answer, after, run, Entry, entry, history}
 use Rattle.report.specs.Layout.{last_number, answer_line}
 use Rattle.run.specs.Run.{Run, run_at, clipped_length, clipped, answer_to, after_line, ended, line_output, take_byte, byte_output, take_text, text_output}
 use Rattle.run.specs.Lines.{lines_from, answered_lines, last_from, event_in, events_of, answers_of, answers_output, entry_in, history_of}
@@ -26,11 +26,6 @@ use Rattle.run.specs.Promises.{LineByLine}
 use Rattle.run.proofs.Laws.Run.{clipped_clipped, ended_clipped, line_output_clipped}
 
 -- ---- the ledger after a line
-
-run_both : (es fs : List Event) (l : Ledger) → run l (es ++ fs) ≡ run (run l es) fs
-unfolding run
-run_both [] fs l = refl
-run_both (e ∷ es) fs l = run_both es fs (after l e)
 
 line_book : (l : Ledger) (a : Result Event Refusal) → after_line l a ≡ run l (event_in a)
 unfolding run
@@ -45,10 +40,6 @@ lines_book l line rest =
 
 -- ---- the history of the answers
 
-accepted_zero : (a : Result Unit Refusal) → is_accepted a ≡ eqb (answer_number a) 0
-accepted_zero (Ok tt) = refl
-accepted_zero (Err r) = sym (ne_eqb (number_of r) 0 (λ e. omega (arith, number_of_pos r)))
-
 output_history : (rest : List (List ℕ)) (l : Ledger) → history l (events_of rest) ≡ history_of rest (answers_of l rest)
 unfolding history events_of answers_of history_of
 output_history [] l = refl
@@ -58,7 +49,7 @@ output_history (line ∷ rest) l = by_line (read_line line) (λ m. output_histor
         → ((m : Ledger) → history m (events_of rest) ≡ history_of rest (answers_of m rest))
         → history l (event_in a ++ events_of rest) ≡ entry_in a (answer_number (answer_to l a)) ++ history_of rest (answers_of (after_line l a) rest)
     by_line (Ok e) on =
-        ap (λ (b : Bool). entry e b ∷ history (after l e) (events_of rest)) (accepted_zero (answer l e))
+        ap (λ (b : Bool). entry e b ∷ history (after l e) (events_of rest)) (accepted_number (answer l e))
         ∙ ap (λ (h : List Entry). entry e (eqb (answer_number (answer l e)) 0) ∷ h) (on (after l e))
     by_line (Err r) on = on l
 
@@ -69,11 +60,7 @@ answered_first : (n : ℕ) (line : List ℕ) (rest : List (List ℕ)) → ltb n 
 answered_first n line rest e = rw (one_more n last_number (ltb-true n last_number e))
 
 answered_none : (n : ℕ) (rest : List (List ℕ)) → ltb n last_number ≡ false → take (last_number - n) rest ≡ []
-answered_none n rest e = rw (none_left n last_number (ltb-false n last_number e))
-
-take_none : (k : ℕ) → take {A = List ℕ} k [] ≡ []
-take_none zero = refl
-take_none (suc k) = refl
+answered_none n rest e = rw (sub-eq-zero_of_le (ltb-false n last_number e))
 
 -- how far the run is after lines of which a last piece is left
 abbrev run_over : Ledger → ℕ → List (List ℕ) → List ℕ → Run
@@ -122,21 +109,19 @@ module _ (l : Ledger) (n : ℕ) (partial : List ℕ) (b : ℕ) (bs : List ℕ) (
 
 text_over : (bs partial : List ℕ) (l : Ledger) (n : ℕ) → Over l n partial bs (take (last_number - n) (lines_from partial bs)) (last_from partial bs)
 unfolding lines_from last_from
-text_over [] partial l n = rw (take_none (last_number - n)) (over_none l n partial)
+text_over [] partial l n = rw (take-nil {A = List ℕ} (last_number - n)) (over_none l n partial)
 text_over (b ∷ bs) partial l n =
     let x = partial ++ (b ∷ []) in
-    ⊎_elim
-    (λ (e : eqb b line_end ≡ true).
-    ⊎_elim
-    (λ (f : ltb n last_number ≡ true).
+    either (eqb b line_end)
+    (λ e.
+    either (ltb n last_number)
+    (λ f.
     rw (e, answered_first n x (lines_from [] bs) f)
     (over_line l n partial b bs _ _ e f (text_over bs [] (after_line l (read_line x)) (n + 1))))
-    (λ (f : ltb n last_number ≡ false).
+    (λ f.
     rw (e, answered_none n (x ∷ lines_from [] bs) f)
-    (over_past l n partial b bs _ _ e f (rw (answered_none n (lines_from [] bs) f) at (text_over bs [] l n))))
-    (true_or_false (ltb n last_number)))
-    (λ (e : eqb b line_end ≡ false). rw e (over_byte l n partial b bs _ _ e (text_over bs x l n)))
-    (true_or_false (eqb b line_end))
+    (over_past l n partial b bs _ _ e f (rw (answered_none n (lines_from [] bs) f) at (text_over bs [] l n)))))
+    (λ e. rw e (over_byte l n partial b bs _ _ e (text_over bs x l n)))
 
 -- ---- the whole
 

@@ -1,6 +1,6 @@
--- Laws of the listing of specs/Run. To cite: `toldPosition-zero`, `toldPosition-line`, `toldFigures-none`, `toldFigures-more`,
--- `toldFigures-same` (equal figures have equal lines), `length-toldFigures`, `toldPositions-kinds`, `length-toldPositions`. Assumes
--- nothing.
+-- Laws of the listing of specs/Run. To cite: `position_output_zero`, `position_output_line`, `figures_output_none`, `figures_output_more`,
+-- `figures_output_same` (equal figures have equal lines), `length_figures_output`, `positions_output_kinds`, `length_positions_output`.
+-- Assumes nothing.
 use mathlib.Core.Path.{◌≡◌, refl, ap, ◌∙◌}
 use mathlib.Core.Logic.{◌≢◌}
 use mathlib.Core.List.{List, [], ◌++◌}
@@ -27,7 +27,7 @@ module _ (kind number : ℕ) where
   position_output_line (pos (suc k)) n = refl
   position_output_line (negsuc k) n = refl
 
-  pub length_position_output : (z : ℤ) → length (position_output kind number z) ≤ position_length
+  length_position_output : (z : ℤ) → length (position_output kind number z) ≤ position_length
   length_position_output (pos zero) = omega arith
   length_position_output (pos (suc k)) = omega (arith, length_position_line kind number (pos (suc k)))
   length_position_output (negsuc k) = omega (arith, length_position_line kind number (negsuc k))

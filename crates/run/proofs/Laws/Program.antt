@@ -1,19 +1,17 @@
 -- The promise of the whole program: the listing is the journal's. To cite: `program_kept`. Assumes nothing.
-use Rattle.std.proofs.Common.{Err, Ok}
+use Rattle.std.proofs.Common.{Ok}
 use mathlib.Core.Path.{◌≡◌, refl, ap, ◌∙◌}
-use mathlib.Core.Bool.{Bool, true, false, cond}
+use mathlib.Core.Bool.{true}
 use mathlib.Core.List.{List}
 use Prim.Native.Nat.{ℕ, suc}
 use native.Mathlib.Omega.{arith}
 use borrow.Author.Tests.{le-leb}
-use lib.IntN.{ℤ}
-use Rattle.refusals.specs.declared.Refusal.TheVariants.{BadField, UnfitMemory}
 use Rattle.tables.specs.Limits.{creditor_count, debtor_count, bank_count}
 use Rattle.tables.specs.Ledger.{Ledger}
-use Rattle.fitness.specs.Fitness.{fit}
 use Rattle.opening.specs.Opening.{opened}
-use Rattle.model.specs.Step.{in_query, figure_of, query, answered, run, Entry, history}
+use Rattle.model.specs.Step.{in_query, figure_of, query, run, Entry, history}
 use Rattle.model.specs.Journal.{Journal, journal, figure_in}
+use Rattle.model.proofs.Laws.Answers.{query_facts}
 use Rattle.model.proofs.Laws.Theorem.{demand3}
 use Rattle.run.specs.Run.{positions_output, journal_output}
 use Rattle.run.specs.Lines.{answered_lines, events_of}
@@ -23,21 +21,9 @@ use Rattle.run.proofs.Laws.Positions.{figures_output_same}
 
 -- ---- the listing
 
--- a query that is answered has its figure
-query_figures : (l : Ledger) (kind number : ℕ) (z : ℤ) → query l kind number ≡ Ok z → figure_of l kind number ≡ z
-unfolding query
-query_figures l kind number z e = by_tests (fit l) (in_query kind number) e
-  where
-    by_tests : (f q : Bool)
-        → cond f (cond q (Ok (figure_of l kind number)) (Err BadField)) (Err UnfitMemory) ≡ Ok z
-        → figure_of l kind number ≡ z
-    by_tests true true p = ap answered p
-    by_tests true false p = let x : ◌≡◌ {A = ℕ} 0 1 = cc in absurd (omega arith)
-    by_tests false q p = let x : ◌≡◌ {A = ℕ} 0 1 = cc in absurd (omega arith)
-
 module _ (l : Ledger) (j : Journal) (figures : (kind number : ℕ) → in_query kind number ≡ true → query l kind number ≡ Ok (figure_in j kind number)) where
   same : (kind number : ℕ) → in_query kind number ≡ true → figure_of l kind number ≡ figure_in j kind number
-  same kind number q = query_figures l kind number (figure_in j kind number) (figures kind number q)
+  same kind number q = (query_facts l kind number (figure_in j kind number) (figures kind number q)).1
 
   listing_same : positions_output l ≡ journal_output j
   unfolding positions_output journal_output

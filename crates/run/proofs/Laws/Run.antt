@@ -11,7 +11,7 @@ use borrow.Author.Tests.{ne_eqb, eqb-false, leb-true, leb-false}
 use lib.Dec.{eqb, leb, ltb}
 use lib.ListN.{length, take, drop, get_or, length-append, length-take, length-drop, take-append-drop, get_or-append}
 use lib.Seq.{take_all, take-append-le, take-take, length-take-le, take-add, take-suc, get_or-take, get_or-drop, get_or-append_seam}
-use Rattle.common.proofs.Tests.{true_or_false}
+use Rattle.common.proofs.Tests.{either}
 use Rattle.lines.specs.Line.{line_end, read_line}
 use Rattle.lines.proofs.Laws.Line.{read_line_length}
 use Rattle.tables.specs.Ledger.{Ledger}
@@ -39,28 +39,26 @@ output_append (b ∷ p) q r =
 -- a front that was kept before
 pub clipped_clipped : (x y : List ℕ) → clipped (clipped x ++ y) ≡ clipped (x ++ y)
 clipped_clipped x y =
-    ⊎_elim
-    (λ (s : leb (length x) clipped_length ≡ true).
+    either (leb (length x) clipped_length)
+    (λ s.
     ap (λ (z : List ℕ). clipped (z ++ y)) (take_all clipped_length x (leb-true (length x) clipped_length s)))
-    (λ (s : leb (length x) clipped_length ≡ false).
+    (λ s.
     let h = leb-false (length x) clipped_length s in
     take-append-le clipped_length (clipped x) y (omega (arith, length-take-le clipped_length x (omega arith)))
     ∙ take-take clipped_length clipped_length x (omega arith)
     ∙ sym (take-append-le clipped_length x y (omega arith)))
-    (true_or_false (leb (length x) clipped_length))
 
 -- it is read as the whole line is
 read_line_kept : (x : List ℕ) → read_line (clipped x) ≡ read_line x
 read_line_kept x =
-    ⊎_elim
-    (λ (s : leb (length x) clipped_length ≡ true).
+    either (leb (length x) clipped_length)
+    (λ s.
     ap read_line (take_all clipped_length x (leb-true (length x) clipped_length s)))
-    (λ (s : leb (length x) clipped_length ≡ false).
+    (λ s.
     let h = leb-false (length x) clipped_length s in
     let n = length-take-le clipped_length x (omega arith) in
     read_line_length (clipped x) (λ e. omega arith)
     ∙ sym (read_line_length x (λ e. omega arith)))
-    (true_or_false (leb (length x) clipped_length))
 
 -- ---- bytes that end no line
 
@@ -147,15 +145,14 @@ endless_more x b e n j h q =
 
 partial_byte : (r : Run) (b : ℕ) → Partial r → Partial (take_byte r b)
 partial_byte r b h =
-    ⊎_elim
-    (λ (e : eqb b line_end ≡ true). rw e (ended_partial (ltb r.lines last_number)))
-    (λ (e : eqb b line_end ≡ false).
+    either (eqb b line_end)
+    (λ e. rw e (ended_partial (ltb r.lines last_number)))
+    (λ e.
     rw e
     (record {
       endless = endless_more r.partial b h.endless (eqb-false b line_end e);
       short = omega (arith, length-take clipped_length (r.partial ++ (b ∷ [])));
     }))
-    (true_or_false (eqb b line_end))
   where
     ended_partial : (more : Bool)
         → Partial

@@ -4,16 +4,13 @@
 use mathlib.Core.Path.{◌≡◌, refl, sym, ap}
 use mathlib.Core.Bool.{Bool, true, false, ◌&&◌}
 use mathlib.Core.List.{List, [], ◌∷◌}
-use mathlib.Core.Logic.{⊎_elim}
-use Prim.Native.Nat.{ℕ, zero, suc, ◌^◌, ◌≤◌, ◌<◌}
+use Prim.Native.Nat.{ℕ, suc, ◌^◌, ◌≤◌, ◌<◌}
 use native.Mathlib.Omega.{arith}
-use borrow.Author.Tests.{ltb-true, ltb-false}
-use lib.Dec.{ltb}
 use lib.IntN.{ℤ, pos, neg_ℤ, nat_abs}
-use lib.ListN.{length, get_or, get_or-eq_default}
+use lib.ListN.{length, get_or}
 use Rattle.common.specs.Limits.{collection_row_limit}
 use Rattle.common.specs.Tests.{all_of}
-use Rattle.common.proofs.Tests.{true_or_false, and_halves, and_true, all_of_at}
+use Rattle.common.proofs.Tests.{and_halves, and_true, all_of_at}
 use Rattle.common.proofs.Made.{all_of_made}
 use Rattle.common.proofs.Walk.{all_from_at, all_from_made}
 use Rattle.positions.specs.Positions.{position, in_limit, InLimit}
@@ -22,9 +19,8 @@ use Rattle.tables.specs.Ledger.{Ledger}
 use Rattle.tables.specs.Rows.{rows}
 use Rattle.fitness.specs.Fitness.{fit}
 use Rattle.fitness.proofs.Laws.Fitness.{fit_facts, compensation_facts}
-use Rattle.model.specs.Bounds.{sum_rows, moved_at, spent}
-use Rattle.model.specs.Bounds.{Bounded}
-use Rattle.model.specs.Bounds.{Safe}
+use Rattle.model.specs.Bounds.{sum_rows, moved_at, spent, Bounded, Safe}
+use Rattle.model.proofs.Laws.Bounds.{entries_within}
 use Rattle.safety.specs.Safety.{within_at, within_spent, bounded, is_safe, between, all_between}
 use Rattle.safety.proofs.Laws.Sums.{sum_small}
 
@@ -32,13 +28,10 @@ use Rattle.safety.proofs.Laws.Sums.{sum_small}
 
 module _ (m : ℕ) (positions : List ℤ) where
   pub within_facts : within_spent m positions ≡ true → InLimit m positions
-  unfolding within_spent position
-  within_facts e zero = omega arith
-  within_facts e (suc i) =
-      ⊎_elim
-      (λ q. within_size m (get_or positions i (pos 0)) (all_from_at (within_at m positions) (length positions) e i (ltb-true i (length positions) q)))
-      (λ q. rw (get_or-eq_default positions (pos 0) (ltb-false i (length positions) q)) (omega arith))
-      (true_or_false (ltb i (length positions)))
+  unfolding within_spent
+  within_facts e =
+      entries_within m positions
+      (λ i h. within_size m (get_or positions i (pos 0)) (all_from_at (within_at m positions) (length positions) e i h))
 
   pub within_made : InLimit m positions → within_spent m positions ≡ true
   unfolding within_spent position

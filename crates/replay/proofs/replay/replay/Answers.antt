@@ -1,5 +1,6 @@
 use Rattle.std.proofs.Common.{◌≡◌, Err, rules, refl}
-use Rattle.replay.proofs.Laws.Replay.{was_opened, replayed_refused, replayed_done}
+use Rattle.model.proofs.Laws.Opened.{was_opened}
+use Rattle.replay.proofs.Laws.Replay.{replayed_refused, replayed_done}
 use Rattle.replay.proofs.replay.replay.Goals as goal
 
 pub returns-in_err-open-clause-replayed : goal.returns-in_err-open-clause-replayed
