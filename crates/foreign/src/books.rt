@@ -3,12 +3,11 @@ ghost use Rattle.tables.specs.Ledger.{ledger};
 ghost use Rattle.cells.specs.Cells.{header_in};
 ghost use Rattle.foreign.specs.Books.{OpenCall, EventCall, ReplayCall};
 
-use crate::UNFIT;
 use book::event::take_event;
 use cells::reading::{cells_fit, event_cells_fit, event_in, header_in};
 use cells::writing::{put_fresh, put_header};
 use opening::open_ledger;
-use refusals::answer_number;
+use refusals::{Refusal, answer_number};
 use replay::replay::replay;
 use tables::BookMut;
 
@@ -27,7 +26,7 @@ pub fn kalanhav_open(
         state.new cents.new (ledger (header_in state.new cents.new) mandates.now collections.now creditors.new creditor_positions.new debtor_positions.new bank_positions.new) }
 {
     if !cells_fit(state, cents) {
-        return UNFIT;
+        return u64::from(Refusal::UnfitMemory);
     }
     let mut header = header_in(state, cents);
     match open_ledger(
@@ -63,7 +62,7 @@ pub fn kalanhav_take_event(
         state.new cents.new (ledger (header_in state.new cents.new) mandates.new collections.new creditors.new creditor_positions.new debtor_positions.new bank_positions.new) }
 {
     if !(cells_fit(state, cents) && event_cells_fit(event)) {
-        return UNFIT;
+        return u64::from(Refusal::UnfitMemory);
     }
     let mut book = BookMut {
         header: header_in(state, cents),
@@ -96,7 +95,7 @@ pub fn kalanhav_replay(
         state.new cents.new (ledger (header_in state.new cents.new) mandates.new collections.new creditors.new creditor_positions.new debtor_positions.new bank_positions.new) }
 {
     if !cells_fit(state, cents) {
-        return UNFIT;
+        return u64::from(Refusal::UnfitMemory);
     }
     let mut book = BookMut {
         header: header_in(state, cents),

@@ -18,9 +18,6 @@ use fitness::fitness::is_fit;
 use safety::is_safe;
 use tables::BookRef;
 
-// The number of refused memory.
-const UNFIT: u64 = 2;
-
 // Whether lent memory is fit.
 pub fn kalanhav_is_fit(
     state: &[u64],

@@ -3,13 +3,13 @@ ghost use Rattle.tables.specs.Ledger.{ledger};
 ghost use Rattle.cells.specs.Cells.{header_in};
 ghost use Rattle.foreign.specs.Queries.{QueryCall};
 
-use crate::UNFIT;
 use book::query::position;
 use cells::reading::{cells_fit, header_in};
 use cells::writing::put_query;
+use refusals::Refusal;
 use tables::BookRef;
 
-// A position in cents, written to its cell: book's `position`. 0, or 2 or 5, where nothing changes.
+// A position in cents, written to its cell: book's `position`. The kind is a number, as C has it. 0, or 2 or 5, where nothing changes.
 pub fn kalanhav_position(
     state: &[u64],
     cents: &mut [i64],
@@ -25,7 +25,7 @@ pub fn kalanhav_position(
     ensures { QueryCall state.now cents.old (ledger (header_in state.now cents.old) mandates.now collections.now creditors.now creditor_positions.now debtor_positions.now bank_positions.now) kind number result cents.new }
 {
     if !cells_fit(state, cents) {
-        return UNFIT;
+        return u64::from(Refusal::UnfitMemory);
     }
     let book = BookRef {
         header: header_in(state, cents),

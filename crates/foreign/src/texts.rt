@@ -2,24 +2,39 @@
 ghost use Rattle.std.specs.Prelude.{◌≡◌, take};
 ghost use Rattle.tables.specs.Ledger.{ledger};
 ghost use Rattle.listing.specs.Past.{lines_past};
-ghost use Rattle.cells.specs.Cells.{header_in};
+ghost use Rattle.cells.specs.Cells.{header_in, counts_state};
 ghost use Rattle.foreign.specs.Texts.{TextCall, EndCall, ListCall};
 
-use crate::UNFIT;
 use cells::Counts;
 use cells::reading::{cells_fit, filled_in, header_in, lines_in, state_cells_fit};
 use cells::writing::{put_counts, put_header, put_written};
 use listing::ending::end_text;
 use listing::listing::list_positions;
 use listing::past::{goes_past, lines_past};
+use refusals::Refusal;
 use tables::{BookMut, BookRef};
-use text::text::take_text;
+use text::text::{Piece, take_text};
 
 // How many lines of the first bytes of a text are not answered.
 fn past_in(lines: u64, filled: usize, text: &[u8]) -> u64
     ensures { result ≡ lines_past lines (take filled text.now) }
 {
     lines_past(lines, text.get(..filled).unwrap_or(text))
+}
+
+// Writes what a piece of a text left, and how many of its lines were not taken.
+fn put_piece(piece: Piece, past: u64, state: &mut [u64])
+    ensures { state.new ≡ counts_state (record { lines = piece.lines; partial = piece.partial; written = piece.written; past = past }) state.old }
+{
+    put_counts(
+        Counts {
+            lines: piece.lines,
+            partial: piece.partial,
+            written: piece.written,
+            past,
+        },
+        state,
+    );
 }
 
 // Takes a piece of input: text's `take_text`. 0, or 2 where nothing changes: cells of another count, or a text or a
@@ -40,7 +55,7 @@ pub fn kalanhav_take_text(
         state.new cents.new (ledger (header_in state.new cents.new) mandates.new collections.new creditors.new creditor_positions.new debtor_positions.new bank_positions.new) text.new out.new }
 {
     if !cells_fit(state, cents) {
-        return UNFIT;
+        return u64::from(Refusal::UnfitMemory);
     }
     let lines = lines_in(state);
     let filled = filled_in(state);
@@ -57,15 +72,7 @@ pub fn kalanhav_take_text(
     match take_text(&mut book, lines, filled, text, out) {
         Ok(piece) => {
             put_header(book.header, state, cents);
-            put_counts(
-                Counts {
-                    lines: piece.lines,
-                    partial: piece.partial,
-                    written: piece.written,
-                    past,
-                },
-                state,
-            );
+            put_piece(piece, past, state);
             0
         }
         Err(r) => u64::from(r),
@@ -78,7 +85,7 @@ pub fn kalanhav_end_text(state: &mut [u64], out: &mut [u8]) -> u64
     ensures { EndCall state.old out.old result state.new out.new }
 {
     if !state_cells_fit(state) {
-        return UNFIT;
+        return u64::from(Refusal::UnfitMemory);
     }
     let lines = lines_in(state);
     let partial = filled_in(state);
@@ -115,7 +122,7 @@ pub fn kalanhav_list_positions(
     ensures { ListCall state.old cents.now (ledger (header_in state.old cents.now) mandates.now collections.now creditors.now creditor_positions.now debtor_positions.now bank_positions.now) out.old result state.new out.new }
 {
     if !cells_fit(state, cents) {
-        return UNFIT;
+        return u64::from(Refusal::UnfitMemory);
     }
     let book = BookRef {
         header: header_in(state, cents),

@@ -1,4 +1,5 @@
-// The ledger's archive for programs in C or Rust: each function of crate foreign under its C name, with the same promise.
+// The ledger's archive for programs in C or Rust: each function of crate foreign under its C name, with the same promise. C needs the names,
+// and a crate that other crates use cannot be an archive. Kinds are numbers, as C has them.
 #![tactic(auto)]
 
 ghost use Rattle.std.specs.Prelude.{◌≡◌, ◌&&◌};

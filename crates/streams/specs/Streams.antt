@@ -12,18 +12,18 @@ is_passing error = int_eq error (pos 11) || int_eq error (pos 4)
 -- ---- a read: so many bytes, none at the end of the input
 
 -- the buffer has them behind the first `from`; without room behind those there is no end to be seen
-pub record Inside (from n long : ℕ) : Type 0 where
+pub record Room (from n long : ℕ) : Type 0 where
   pub room : from < long
   pub inside : from + n ≤ long
 
-abbrev pub Given : ℕ → ℕ → Result ℕ StreamFailed → Type 0
-Given from long (Ok n) = Inside from n long
-Given from long (Err e) = Unit
+abbrev pub Inside : ℕ → ℕ → Result ℕ StreamFailed → Type 0
+Inside from long (Ok n) = Room from n long
+Inside from long (Err e) = Unit
 
 -- the first `from` bytes stay as they are
 pub record ReadBehind (from : ℕ) (buffer : List ℕ) (r : Result ℕ StreamFailed) (buffer' : List ℕ) : Type 0 where
   pub front : take from buffer' ≡ take from buffer
-  pub inside : Given from (length buffer') r
+  pub inside : Inside from (length buffer') r
 
 -- where there is nothing to write, all of it is written
 abbrev pub WholeWhenEmpty : ℕ → Result Unit StreamFailed → Type 0

@@ -60,7 +60,7 @@ fn try_again(rt: HostRuntime, name: &str, error: Error) -> Result<(), StreamFail
 }
 
 // Reads once from an input of this name, behind the first `from` bytes of the buffer, which stay as they are, and gives the
-// number of bytes, 0 at the end of the input; it fails where there is no room behind them. No byte of the input is lost, and
+// number of bytes, 0 at the end of the input, as std's `read` says it; it fails where there is no room behind them. No byte of the input is lost, and
 // none is read twice.
 pub fn read_from<R: Read>(
     rt: HostRuntime,

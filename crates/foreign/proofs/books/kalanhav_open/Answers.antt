@@ -12,4 +12,4 @@ pub returns-in-Err : goal.returns-in-Err
 returns-in-Err c =
     open_left _ _ _ (sym c.cells_fit.ensures ∙ c.if-not-cells_fit.false) _ _
     (rw (c.header_in-header.ensures, c.in-Err.is) at c.open_ledger.ensures)
-    _ c.from.ensures
+    _ c.from-in-Err.ensures

@@ -8,7 +8,7 @@ returns-in-Ok c =
     let taken = rw (c.header_in.ensures, c.lines_in-lines.ensures, c.filled_in-filled.ensures, c.in-Ok.is) at c.take_text.ensures.taken in
     text_done _ _ (sym c.cells_fit.ensures ∙ c.if-not-cells_fit.false) _ _ _
     c.in-Ok.piece (ledger_in c.take_text.new.book) _ _ c.past_in-past.result _ _ _
-    (rw c.put_header.ensures.state at c.put_counts.ensures)
+    (rw c.put_header.ensures.state at c.put_piece.ensures)
     c.put_header.ensures.cents
     (search rules)
     taken
