@@ -18,22 +18,22 @@ use treatments::treat::treat;
 
 // The row of the mandate that an event names, looked for from a row on. What it shares with the collection's is `find_since`: one form
 // for both would take table, used rows, number and the test of the kind, and be as long as the two.
-pub fn find_mandate(book: &BookMut, e: Event, since: usize) -> Option<usize>
-    ensures { result ≡ cond (names_mandate e.kind) (lookup_since book.now.mandates.now book.now.header.mandates e.mandate since) None }
+pub fn find_mandate(e: Event, mandates: &[u64], used: usize, since: usize) -> Option<usize>
+    ensures { result ≡ cond (names_mandate e.kind) (lookup_since mandates.now used e.mandate since) None }
 {
     if (2 <= e.kind) & (e.kind <= 5) {
-        find_since(book.mandates, book.header.mandates, e.mandate, since)
+        find_since(mandates, used, e.mandate, since)
     } else {
         None
     }
 }
 
 // The row of the collection that an event names, looked for from a row on.
-pub fn find_collection(book: &BookMut, e: Event, since: usize) -> Option<usize>
-    ensures { result ≡ cond (names_collection e.kind) (lookup_since book.now.collections.now book.now.header.collections e.a since) None }
+pub fn find_collection(e: Event, collections: &[u64], used: usize, since: usize) -> Option<usize>
+    ensures { result ≡ cond (names_collection e.kind) (lookup_since collections.now used e.a since) None }
 {
     if 5 <= e.kind {
-        find_since(book.collections, book.header.collections, e.a, since)
+        find_since(collections, used, e.a, since)
     } else {
         None
     }

@@ -18,7 +18,8 @@ pub fn take_event(book: &mut BookMut, e: Event) -> Result<(), Refusal>
         return Err(Refusal::UnfitMemory);
     }
     check(e)?;
-    let mandate = find_mandate(book, e, 0);
-    let collection = find_collection(book, e, 0);
+    let view = book.view();
+    let mandate = find_mandate(e, view.mandates, view.header.mandates, 0);
+    let collection = find_collection(e, view.collections, view.header.collections, 0);
     act(book, e, mandate, collection)
 }

@@ -41,8 +41,9 @@ fn take_fit(book: &mut BookMut, e: Event) -> Result<(), Refusal>
     ensures taken { Taken (ledger_in book.old) e result (ledger_in book.new) }
 {
     check(e)?;
-    let mandate = find_mandate(book, e, 0);
-    let collection = find_collection(book, e, 0);
+    let view = book.view();
+    let mandate = find_mandate(e, view.mandates, view.header.mandates, 0);
+    let collection = find_collection(e, view.collections, view.header.collections, 0);
     act(book, e, mandate, collection)
 }
 

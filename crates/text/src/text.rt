@@ -104,8 +104,14 @@ impl KnownBook<'_, '_, '_> {
         }
         let mandate_since = self.mandate_since(e);
         let collection_since = self.collection_since(e);
-        let mandate = find_mandate(self.book, e, mandate_since);
-        let collection = find_collection(self.book, e, collection_since);
+        let view = self.book.view();
+        let mandate = find_mandate(e, view.mandates, view.header.mandates, mandate_since);
+        let collection = find_collection(
+            e,
+            view.collections,
+            view.header.collections,
+            collection_since,
+        );
         act(self.book, e, mandate, collection)
     }
 
@@ -147,6 +153,7 @@ impl KnownBook<'_, '_, '_> {
         ensures loans { SameLoans self.old.book.now self.new.book.now }
         ensures answered { LinesAnswered (run_at (ledger_in self.old.book.now) lines []) text.now out.old result (ledger_in self.new.book.now) out.new }
     {
+        // each line begins behind the end of the one before
         let mut p = Progress { lines, written: 0 };
         let mut at = 0;
         while let Some(end) = line_end(text, at) {

@@ -1,4 +1,4 @@
--- Laws of the call for an event: acting on it by the rows of what it names is the model's step. To cite: `found_for`, `acted_taken`,
+-- Laws of the call for an event: acting on it by the rows of what it names is the model's step. To cite: `found_for`, `found_in_view`, `acted_taken`,
 -- `taken_unfit`, `taken_refused`. Assumes nothing.
 use Rattle.std.proofs.Common.{Err, None, Ok, Option, ℕ, Result}
 use mathlib.Core.Path.{◌≡◌, refl, sym, ◌∙◌, ap, subst}
@@ -51,6 +51,17 @@ found_for e l mandate collection mandateSince collectionSince s t m c = record {
   mandate_is = λ n. m ∙ rw n s;
   collection_is = λ n. c ∙ rw n t;
 }
+
+-- by the cells that a view of the book lends
+pub found_in_view :
+    (e : Event) (l l' : Ledger) (mandate collection : Option ℕ) (i j : ℕ)
+    → l ≡ l'
+    → MayStart l'.mandates l'.mandates_used e.mandate i
+    → MayStart l'.collections l'.collections_used e.a j
+    → mandate ≡ cond (names_mandate e.kind) (lookup_since l.mandates l.mandates_used e.mandate i) None
+    → collection ≡ cond (names_collection e.kind) (lookup_since l.collections l.collections_used e.a j) None
+    → FoundFor e l' mandate collection
+found_in_view e l l' mandate collection i j same s t m c = found_for e l' mandate collection i j s t (rw same at m) (rw same at c)
 
 -- ---- acting on the event is the model's answer and effect
 

@@ -1,9 +1,9 @@
 -- `book::event::take_event` meets its contract: the memory first, then the limits, then the event is acted on. Assumes nothing.
 use Rattle.std.proofs.Common.{◌≡◌, Err, rules, sym, ap, ◌∙◌}
-use Rattle.tables.specs.Ledger.{ledger_in}
+use Rattle.tables.specs.Ledger.{ledger_of, ledger_in}
 use Rattle.tables.proofs.Laws.Lookup.{lookup_since_first}
 use Rattle.fitness.specs.Fitness.{fit}
-use Rattle.book.proofs.Laws.Events.{found_for, acted_taken, taken_unfit, taken_refused}
+use Rattle.book.proofs.Laws.Events.{found_in_view, acted_taken, taken_unfit, taken_refused}
 use Rattle.book.proofs.event.take_event.Goals as goal
 
 pub returns-then-not-is_fit-clause-taken : goal.returns-then-not-is_fit-clause-taken
@@ -21,7 +21,7 @@ returns-clause-taken c =
     let b = a.book.now in
     acted_taken (ledger_in b) a.e _ _ _ _ (sym (c.is_fit.ensures ∙ ap fit c.view.ensures) ∙ c.if-not-is_fit.false)
     (sym c.check.ensures.answer ∙ c.in_ok-check.was)
-    (found_for a.e (ledger_in b) _ _ 0 0
+    (found_in_view a.e (ledger_of c.view-view.result) (ledger_in b) _ _ 0 0 c.view-view.ensures
     (lookup_since_first b.mandates.now b.header.mandates a.e.mandate)
     (lookup_since_first b.collections.now b.header.collections a.e.a)
     c.find_mandate-mandate.ensures
