@@ -73,7 +73,7 @@ pub fn is_used(found: Option<usize>, cells: &[u64], used: usize) -> bool
     found.is_some_and(|row| row < existing_of(cells, used))
 }
 
-// The row that was found; the first where none was.
+// The row that was found; the first where none was, which a caller tells apart by `is_used`.
 pub fn found_row(found: Option<usize>) -> usize
     ensures { result ≡ found_row found }
 {

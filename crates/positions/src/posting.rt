@@ -37,7 +37,7 @@ pub fn is_entry(positions: &[i64], number: u64) -> bool
     (1..=positions.len() as u64).contains(&number)
 }
 
-// The position of a number, 0 where there is no entry.
+// The position of a number, 0 where there is no entry: so the rules have it for a party that has none.
 #[tactic(auto, using(crate::proofs::Laws::Answers::position_steps))]
 pub fn position_of(positions: &[i64], number: u64) -> i64
     ensures { result ≡ position positions.now number }

@@ -33,7 +33,8 @@ pub struct BookRef<'a> {
     pub bank_positions: &'a [i64],
 }
 
-// All that is lent, to be changed.
+// All that is lent, to be changed. That a call leaves the loans as they were is each call's own promise (`SameLoans`): it speaks of the book
+// before and after, which no field of it can.
 #[derive(Drop)]
 pub struct BookMut<'a> {
     pub header: Header,

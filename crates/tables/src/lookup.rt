@@ -6,7 +6,8 @@ ghost use Rattle.tables.specs.Rows.{rows};
 
 use crate::rows::{STRIDE, rows_of};
 
-// The used rows that there are.
+// The used rows that there are. Cells and the number of used rows come apart, here and above: a book has them in a table and in its header, so
+// that a struct of both would be made for each call.
 pub fn existing_of(cells: &[u64], used: usize) -> usize
     ensures { result ≡ existing cells.now used }
 {

@@ -5,6 +5,7 @@ ghost use Rattle.tables.specs.Records.{standing_tag as tag_of, standing_of, mand
 ghost use Rattle.tables.specs.Rows.{rows, row_at, put_row};
 
 use crate::{Collection, Mandate, Standing, State, Undoing, collection_column, mandate_column};
+use std::array;
 
 // The cells of a row, in either table.
 pub const STRIDE: usize = 9;
@@ -46,17 +47,7 @@ fn cell(cells: &[u64], row: usize, k: usize) -> u64
 fn fields_at(cells: &[u64], row: usize) -> [u64; STRIDE]
     ensures { result ≡ row_at stride cells.now row }
 {
-    [
-        cell(cells, row, 0),
-        cell(cells, row, 1),
-        cell(cells, row, 2),
-        cell(cells, row, 3),
-        cell(cells, row, 4),
-        cell(cells, row, 5),
-        cell(cells, row, 6),
-        cell(cells, row, 7),
-        cell(cells, row, 8),
-    ]
+    array::from_fn(|k| cell(cells, row, k))
 }
 
 // The record of a row. A row past the end reads as cells of 0.

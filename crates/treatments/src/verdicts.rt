@@ -44,7 +44,7 @@ fn is_settled(s: State) -> bool
     matches!(s, State::Settled(_))
 }
 
-// The settled day, 0 of a collection that is not settled.
+// The settled day. 0 of a collection that is not settled, as the rules have it; refusal 15 comes before what would ask for it.
 fn settled_on(s: State) -> u64
     ensures { result ≡ settled_on s }
 {
@@ -105,8 +105,9 @@ fn treated(t: Treatment, date: u64, k: Collection) -> Collection
     }
 }
 
-// Refusals 6 to 16, of the collection in the row that was found. `there` stands beside it, no Option of it: a later test is to see a
-// collection too where none is there, so that which tests are made does not depend on an earlier one; an Option would be no plainer.
+// Refusals 6 to 16, of the collection in the row that was found. `there` stands beside it here and below, no Option of it: `first_failing`
+// takes all tests at once, so each is made of a collection in any case; with an Option each would ask once more whether there is one.
+// Date, treatment and collection come apart from three places, and a struct of them would be made here alone.
 fn judge_first(
     latest: u64,
     date: u64,

@@ -1,11 +1,17 @@
 -- Laws of specs/Calls: an action that is refused leaves the ledger, one that is accepted has its effect and passed every test.
--- To cite: `done_refused`, `done_accepted`, `done_same`, `judged_passes`. Assumes nothing.
+-- To cite: `done_refused`, `done_accepted`, `done_same`, `judged_passes`, `judged_then`. Assumes nothing.
 use Rattle.std.proofs.Common.{Err, Ok, Result}
+use Rattle.std.specs.Result.{is_err}
+use mathlib.Core.Bool.{Bool, true, false, cond}
+use mathlib.Core.List.{List, [], ◌∷◌, ◌++◌}
+use Rattle.common.specs.Checks.{Check, judged}
+use Rattle.common.proofs.Tests.{never, and_halves}
 use mathlib.Core.Path.{◌≡◌, refl, sym, ◌∙◌, ap}
 pub use Rattle.common.proofs.Checks.{judged_passes}
+use Rattle.common.proofs.Checks.{all_refuse}
 use Rattle.refusals.specs.declared.Refusal.{Refusal}
 use Rattle.tables.specs.Ledger.{Ledger}
-use Rattle.model.specs.Step.{after_answer}
+use Rattle.model.specs.Step.{after_answer, then_ruled}
 use Rattle.checking.specs.Calls.{Done}
 
 module _ (answer : Result Unit Refusal) (l changed : Ledger) where
@@ -28,3 +34,16 @@ done_same answer answer' l changed changed' r l' e f d = record {
     by_answer : (a : Result Unit Refusal) → answer ≡ a → after_answer answer changed l ≡ after_answer answer changed' l
     by_answer (Ok tt) q = rw q (f q)
     by_answer (Err x) q = rw q
+
+-- two lists after one another: the second is looked at where the first refuses nothing
+pub judged_then : (cs ds : List (Check (Result Unit Refusal))) → all_refuse cs ≡ true → judged (cs ++ ds) (Ok tt) ≡ then_ruled (judged cs (Ok tt)) (judged ds (Ok tt))
+judged_then [] ds n = refl
+judged_then (c ∷ cs) ds n =
+    let h = and_halves (is_err c.failing) n in
+    by_test c.passes c.failing h.0 (judged_then cs ds h.1)
+  where
+    by_test : (b : Bool) (f : Result Unit Refusal) → is_err f ≡ true → judged (cs ++ ds) (Ok tt) ≡ then_ruled (judged cs (Ok tt)) (judged ds (Ok tt))
+        → cond b (judged (cs ++ ds) (Ok tt)) f ≡ then_ruled (cond b (judged cs (Ok tt)) f) (judged ds (Ok tt))
+    by_test true f r e = e
+    by_test false (Err x) r e = refl
+    by_test false (Ok tt) r e = absurd (never r refl)

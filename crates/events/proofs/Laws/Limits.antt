@@ -1,6 +1,6 @@
 -- Laws of specs/Limits. To cite: `checked_facts` (what an event within its limits has: `Limited`), `row_facts` (`Fits`), the
--- facts of a kind that others ask for (`creditor_facts` to `refund_facts`), `kind_cases` (an event of known kind is of one of them), and of
--- every row `row_of_every`, `row_of_codes`, `second_le`. Nothing but `unfolding table` looks at the rows. Assumes nothing.
+-- facts of each kind (`creditor_facts` to `reversal_facts`), `kind_cases` (an event of known kind is of one of them), and of every row
+-- `row_of_every`, `row_of_codes`, `second_le`. Nothing but `unfolding table` looks at the rows. Assumes nothing.
 use Rattle.std.proofs.Common.{Err, None, Ok, Option, Some, find}
 use mathlib.Core.Path.{◌≡◌, refl, sym, ◌∙◌, ap, subst}
 use mathlib.Core.Bool.{Bool, true, false, cond, ◌&&◌}
@@ -10,9 +10,9 @@ use Prim.Native.Nat.{ℕ, zero, suc, ◌+◌, ◌≤◌, ◌<◌}
 use native.Mathlib.Omega.{arith}
 use lib.Dec.{leb, eqb}
 use native.Mathlib.Nat.{le_antisymm, eq-or-lt_of_le}
-use borrow.Author.Tests.{leb-true, eqb-true}
+use borrow.Author.Tests.{leb-true, le-leb, eqb-true}
 use Rattle.std.proofs.lemmas.Option.{cond_some}
-use Rattle.common.proofs.Tests.{never, and_halves}
+use Rattle.common.proofs.Tests.{never, and_halves, and_true}
 use Rattle.common.proofs.Checks.{check_passes}
 use Rattle.calendar.specs.Gregorian.{in_range, last_date}
 use Rattle.calendar.proofs.Laws.Gregorian.{range_facts}
@@ -22,7 +22,7 @@ use Rattle.events.specs.declared.limits.Range.{Range}
 use Rattle.events.specs.declared.limits.SecondDate.{SecondDate}
 use Rattle.events.specs.declared.limits.SecondDate.TheVariants.{NoSecond, Dated, NotAfter}
 use Rattle.events.specs.declared.limits.Row.{Row}
-use Rattle.events.specs.Limits.{within, table, row_in, row_of, second_fits, row_fits, row_answer_fits, fields_fit, checked, kinds, creditor, debtor, bank, number, cents, rate, mandate_codes, sequence_codes, refund_codes, last_kind, only}
+use Rattle.events.specs.Limits.{within, table, row, row_in, row_of, second_fits, row_fits, row_answer_fits, fields_fit, checked, kinds, unnamed, creditor, debtor, bank, number, cents, rate, mandate_codes, sequence_codes, refund_codes, last_kind, only}
 
 -- ---- ranges
 
@@ -35,6 +35,9 @@ pub within_between : (r : Range) (x : ℕ) → within r x ≡ true → Between r
 within_between r x e =
     let p = and_halves (leb r.low x) e in
     record { from = leb-true _ _ p.0; to = leb-true _ _ p.1 }
+
+pub between_within : (r : Range) (x : ℕ) → Between r x → within r x ≡ true
+between_within r x b = and_true (le-leb _ _ b.from) (le-leb _ _ b.to)
 
 -- ---- cases on a number
 
@@ -269,6 +272,15 @@ amend_facts e m h =
     inr (le_antisymm o.code.to o.code.from, record { mandate = o.fits.mandate; creditor = o.fits.a }))
     (cond_found (within (only 0) e.code) _ m.limits _ (rw h at m.found))
 
+pub record CancelFields (e : Event) : Type 0 where
+  pub mandate : Between number e.mandate
+
+pub cancel_facts : (e : Event) → Limited e → e.kind ≡ 4 → CancelFields e
+unfolding row_of table
+cancel_facts e m h =
+    let o = of_one e _ m (rw h at m.found) in
+    record { mandate = o.fits.mandate }
+
 pub record CollectFields (e : Event) : Type 0 where
   pub mandate : Between number e.mandate
   pub collection : Between number e.a
@@ -288,6 +300,31 @@ collect_facts e m h =
       code = o.code;
     }
 
+-- settle, reject, return and reversal name a collection
+pub record CollectionField (e : Event) : Type 0 where
+  pub collection : Between number e.a
+
+collection_of_lem : (e : Event) (k : ℕ)
+    → (row_of k e.code ≡ cond (within unnamed e.code) (Some (row k unnamed unnamed number unnamed unnamed unnamed NoSecond)) None)
+    → Limited e
+    → e.kind ≡ k
+    → CollectionField e
+collection_of_lem e k t m h =
+    let o = of_one e _ m (sym t ∙ (rw h at m.found)) in
+    record { collection = o.fits.a }
+
+pub settle_facts : (e : Event) → Limited e → e.kind ≡ 6 → CollectionField e
+unfolding row_of table
+settle_facts e = collection_of_lem e 6 refl
+
+pub reject_facts : (e : Event) → Limited e → e.kind ≡ 7 → CollectionField e
+unfolding row_of table
+reject_facts e = collection_of_lem e 7 refl
+
+pub return_facts : (e : Event) → Limited e → e.kind ≡ 8 → CollectionField e
+unfolding row_of table
+return_facts e = collection_of_lem e 8 refl
+
 pub record RefundFields (e : Event) : Type 0 where
   pub collection : Between number e.a
   pub rate : Between rate e.b
@@ -298,6 +335,10 @@ unfolding row_of table
 refund_facts e m h =
     let o = of_one e _ m (rw h at m.found) in
     record { collection = o.fits.a; rate = o.fits.b; code = o.code }
+
+pub reversal_facts : (e : Event) → Limited e → e.kind ≡ 10 → CollectionField e
+unfolding row_of table
+reversal_facts e = collection_of_lem e 10 refl
 
 -- ---- the cases on a known kind
 

@@ -11,8 +11,7 @@ use borrow.Author.Tests.{ltb-true, ltb-false}
 use lib.Dec.{ltb}
 use lib.ListN.{length, get_or, get_or-eq_default}
 use Rattle.common.proofs.Tests.{either}
-use Rattle.calendar.specs.Gregorian.{in_range}
-use Rattle.calendar.proofs.Laws.Gregorian.{range_facts}
+use Rattle.calendar.specs.Gregorian.{is_date, in_range}
 use Rattle.calendar.proofs.Laws.DayNumber.{day_number_mono_le}
 use Rattle.positions.specs.declared.Postings.{Postings}
 use Rattle.positions.specs.Positions.{HasEntry, position, posted, transferred, total, InLimit}
@@ -35,11 +34,11 @@ use Rattle.model.proofs.Laws.Limits.{at_most_limit, longest_way, last_day_found}
 -- ---- the days of an undoing in time
 
 -- so the calendar days of an undoing in time are few
-pub days_in_time : (way : Way) (settled date : ℕ) → in_range settled ≡ true → in_range date ≡ true → in_time way settled date ≡ true → days_since settled date ≤ refund_days
-days_in_time way settled date rs rd h =
+pub days_in_time : (way : Way) (settled date : ℕ) → in_range settled ≡ true → is_date date ≡ true → in_time way settled date ≡ true → days_since settled date ≤ refund_days
+days_in_time way settled date rs d h =
     let e = last_day_found way settled rs in
     let l = at_most_limit date e.date (last_day way settled) e.is h in
-    let m = day_number_mono_le date e.date (range_facts date rd).is_date_lem e.is_date_lem l in
+    let m = day_number_mono_le date e.date d e.is_date_lem l in
     omega (arith, longest_way way, e.near)
 
 -- ---- what an event posts

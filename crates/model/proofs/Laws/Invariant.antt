@@ -6,6 +6,7 @@ use Prim.Native.Nat.{ℕ, ◌+◌, ◌≤◌, ◌<◌}
 use native.Mathlib.Omega.{arith}
 use borrow.Author.Tests.{leb-true, ltb-true}
 use Rattle.common.proofs.Tests.{and_halves}
+use Rattle.calendar.proofs.Laws.Gregorian.{range_facts}
 use Rattle.calendar.specs.Gregorian.{in_range}
 use Rattle.positions.specs.Compensation.{amount_limit}
 use Rattle.positions.specs.Limits.{compensation_limit}
@@ -46,7 +47,7 @@ module _ (l : Ledger) (n date : ℕ) (range : in_range date ≡ true) (h : Colle
   undo_post way o u =
       subst (λ (i : ℕ). Posting (amount_limit + compensation_limit) (undone way h.collection.amount i date)) (sym (ap settled_on u.state))
       (undo_posting way h.collection.amount u.day date o h.fits.amount_fit.to
-      (omega (arith, days_in_time way u.day date u.real range u.in_time_lem)))
+      (omega (arith, days_in_time way u.day date u.real (range_facts date range).is_date_lem u.in_time_lem)))
 
 -- ---- each event keeps the tables safe
 

@@ -148,6 +148,12 @@ pub settlement_of_is : (A : ℕ) → A ≤ amount_limit → settlement_of A ≡ 
 unfolding settlement_of
 settlement_of_is A h = rw (le-leb A amount_limit h)
 
+-- the amounts as a machine makes them, of what is added and of what is taken
+pub settlement_amounts :
+    (A : ℕ) (plus minus : ℤ) → plus ≡ pos A → minus ≡ neg_ℤ (pos A) → A ≤ amount_limit
+    → Some (record { debtor = minus; creditor = plus; dbank = minus; cbank = plus; compensation = pos 0 }) ≡ settlement_of A
+settlement_amounts A plus minus p m h = rw (p, m) (sym (settlement_of_is A h))
+
 pub reversed_of_is : (A : ℕ) → A ≤ amount_limit → reversed_of A ≡ Some (reversed A)
 unfolding reversed_of
 reversed_of_is A h = rw (le-leb A amount_limit h)

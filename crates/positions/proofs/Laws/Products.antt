@@ -1,13 +1,21 @@
--- Laws of specs/Products. To cite: `products`, `rate_days_amount_interest`; for the code `cents_laws`. Assumes nothing.
-use Rattle.std.proofs.Common.{Err, None, Ok, Some, ℕ}
+-- Laws of specs/Products. To cite: `products`, `rate_days_amount_interest`, `rate_days_most`, `rate_days_call`, `rate_days_amount_call`; for the
+-- code `cents_laws`. Assumes nothing.
+use Rattle.std.proofs.Common.{Err, None, Ok, Result, Some, ℕ}
+use mathlib.Core.Bool.{Bool, true, false, cond, ◌&&◌}
+use mathlib.Core.List.{[], ◌∷◌}
+use lib.Dec.{leb}
+use Rattle.common.specs.Checks.{check, judged}
+use Rattle.common.specs.Tests.{all_of}
+use Rattle.common.proofs.Tests.{either}
+use Rattle.refusals.specs.declared.Refusal.TheVariants.{BadField}
 use mathlib.Core.Path.{◌≡◌, refl, sym, ap, ◌∙◌}
-use Prim.Native.Nat.{ℕ, ◌*◌, ◌<◌}
+use Prim.Native.Nat.{ℕ, ◌*◌, ◌<◌, ◌≤◌}
 use native.Mathlib.Omega.{arith}
-use native.Mathlib.Nat.{mul_assoc, mul_comm, mul-one}
+use native.Mathlib.Nat.{mul_assoc, mul_comm, mul-le-mul, mul-one}
 use Rattle.refusals.specs.declared.Refusal.{Refusal}
-use Rattle.positions.specs.Compensation.{parts_of_cent, interest, half_up, interest_bound, compensation, compensation_of}
+use Rattle.positions.specs.Compensation.{amount_limit, rate_limit, days_limit, in_limits, parts_of_cent, interest, half_up, interest_bound, compensation, compensation_of}
 use Rattle.positions.proofs.Laws.Compensation.{in_limits_parts, interest_fits}
-use Rattle.positions.specs.Products.{rate_days, rate_days_amount, rate_days_answer, rate_days_amount_answer, RateDaysAmountCall, cents_of, Products}
+use Rattle.positions.specs.Products.{rate_days, rate_days_amount, rate_days_amount_checks, rate_days_answer, rate_days_amount_answer, RateDaysCall, RateDaysAmountCall, cents_of, Products}
 
 -- ---- the products
 
@@ -15,6 +23,11 @@ pub rate_days_amount_interest : (days rate amount : ℕ) → rate_days_amount da
 unfolding rate_days_amount rate_days interest
 rate_days_amount_interest days rate amount =
     mul_comm (days * rate) amount ∙ ap (λ (n : ℕ). amount * n) (mul_comm days rate) ∙ sym (mul_assoc amount rate days)
+
+-- the largest first product
+pub rate_days_most : (days rate : ℕ) → days ≤ days_limit → rate ≤ rate_limit → rate_days days rate ≤ 9989001
+unfolding rate_days
+rate_days_most days rate d r = mul-le-mul d r
 
 -- ---- the compensation
 
@@ -37,6 +50,47 @@ module _ (days rate amount : ℕ) where
 
 -- what `compensation` answers
 pub ruleset cents_laws = (given_fits, given_cents, refused_cents)
+
+-- ---- the calls, where all limits are one test
+
+-- whichever of its four tests a list begins with
+judged_four :
+    {A : Type 0} (l h r d : Bool) (bad good : A)
+    → judged (check d bad ∷ check r bad ∷ check l bad ∷ check h bad ∷ []) good ≡ cond (all_of (l ∷ h ∷ r ∷ d ∷ [])) good bad
+judged_four true true true true bad good = refl
+judged_four true true true false bad good = refl
+judged_four l h false true bad good = either l (λ p. either h (λ q. rw (p, q)) (λ q. rw (p, q))) (λ p. rw p)
+judged_four l h false false bad good = either l (λ p. either h (λ q. rw (p, q)) (λ q. rw (p, q))) (λ p. rw p)
+judged_four true false true true bad good = refl
+judged_four true false true false bad good = refl
+judged_four false h true true bad good = refl
+judged_four false h true false bad good = refl
+
+pub rate_days_call :
+    (days rate : ℕ) (r : Result ℕ Refusal) → r ≡ cond (leb days days_limit && leb rate rate_limit) (Ok (rate_days days rate)) (Err BadField)
+    → RateDaysCall days rate r
+unfolding rate_days_answer rate_days
+rate_days_call days rate r e =
+    either (leb days days_limit)
+    (λ p.
+    either (leb rate rate_limit) (λ q. record { answer_is = rw (e, p, q); number_is = rw (e, p, q); value_is = rw (e, p, q) })
+    (λ q. record { answer_is = rw (e, p, q); number_is = rw (e, p, q); value_is = rw (e, p, q) }))
+    (λ p. record { answer_is = rw (e, p); number_is = rw (e, p); value_is = rw (e, p) })
+
+one_test :
+    {A : Type 0} (days rate amount : ℕ) (bad good : A)
+    → judged (rate_days_amount_checks bad days rate amount) good ≡ cond (in_limits amount rate days) good bad
+one_test days rate amount bad good = judged_four (leb 1 amount) (leb amount amount_limit) (leb rate rate_limit) (leb days days_limit) bad good
+
+pub rate_days_amount_call :
+    (days rate amount : ℕ) (r : Result ℕ Refusal)
+    → r ≡ cond (in_limits amount rate days) (Ok (rate_days_amount days rate amount)) (Err BadField)
+    → RateDaysAmountCall days rate amount r
+unfolding rate_days_amount_answer rate_days_amount rate_days
+rate_days_amount_call days rate amount r e =
+    either (in_limits amount rate days)
+    (λ p. record { answer_is = rw (e, one_test days rate amount _ _, p); number_is = rw (e, one_test days rate amount _ _, p); value_is = rw (e, one_test days rate amount _ _, p) })
+    (λ p. record { answer_is = rw (e, one_test days rate amount _ _, p); number_is = rw (e, one_test days rate amount _ _, p); value_is = rw (e, one_test days rate amount _ _, p) })
 
 -- ---- an amount of one cent
 

@@ -1,6 +1,6 @@
 -- Laws of specs/Lookup: a row that is found is the lowest used one of its number, rows passed over, and what a written row
 -- does to a lookup.
--- To cite: `Lowest` with `lookup_at`, `lookup_used`, `lookup_lent`, `lookup_none`, `lookup_since_lem`, `lookup_put_kept`,
+-- To cite: `Lowest` with `lookup_at` and `lookup_made`, `lookup_used`, `lookup_lent`, `lookup_nothing`, `lookup_none`, `lookup_since_lem`, `lookup_put_kept`,
 -- `lookup_put_next`, `Grown` with `grown_same`, `grown_put_kept` and `grown_put_next`, `mandate_at_number`, `collection_at_number`. Assumes nothing.
 use Rattle.std.proofs.Common.{None, Option, Some, ℕ}
 use mathlib.Core.Path.{◌≡◌, refl, sym, ◌∙◌, ap}
@@ -92,6 +92,26 @@ module _ (cells : List ℕ) (used number : ℕ) where
 
   pub lookup_lent : (row : ℕ) → lookup cells used number ≡ Some row → row < rows cells
   lookup_lent row e = omega (arith, (lookup_at row e).existing_row, existing_rows cells used)
+
+  pub lookup_nothing : lookup cells used number ≡ None → (j : ℕ) → j < existing cells used → number_at cells j ≢ number
+  lookup_nothing =
+      lookup_cases
+      (λ (f : Option ℕ). f ≡ None → (j : ℕ) → j < existing cells used → number_at cells j ≢ number)
+      (λ k low e. absurd cc)
+      (λ none e. none)
+
+  pub lookup_made : (row : ℕ) → Lowest cells used number row → lookup cells used number ≡ Some row
+  lookup_made row r =
+      lookup_cases (λ (f : Option ℕ). f ≡ Some row)
+      (λ k low. ap Some (one_row k low))
+      (λ none. absurd (none row r.existing_row r.number_row))
+    where
+      one_row : (k : ℕ) → Lowest cells used number k → k ≡ row
+      one_row k low =
+          either (ltb k row) (λ e. absurd (r.none_below k (ltb-true k row e) low.number_row))
+          (λ e.
+          either (ltb row k) (λ b. absurd (low.none_below row (ltb-true row k b) r.number_row))
+          (λ b. omega (arith, ltb-false k row e, ltb-false row k b)))
 
   pub lookup_none : ((j : ℕ) → j < existing cells used → number_at cells j ≢ number) → lookup cells used number ≡ None
   lookup_none none =

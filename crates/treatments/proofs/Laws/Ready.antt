@@ -104,7 +104,7 @@ refundable way latest date amount s a rated r h f e g =
       from = (range_facts i.day d.date).is_date_lem;
       to = (range_facts date r).is_date_lem;
       order = omega (arith, d.to);
-      limits = record { low = a.from; high = a.to; rated = rated; dated = omega (arith, days_in_time way i.day date d.date r (rw i.is at g)) };
+      limits = record { low = a.from; high = a.to; rated = rated; dated = omega (arith, days_in_time way i.day date d.date (range_facts date r).is_date_lem (rw i.is at g)) };
     })
 
 -- ---- how large the amounts are
