@@ -8,8 +8,8 @@ pub mod gregorian;
 pub mod periods;
 pub mod target;
 
-// A count of calendar days. It is never added to a count of business days: three types keep three units apart, and one
-// generic over a unit would be no plainer.
+// A count of calendar days. It is never added to a count of business days: three tuple structs keep three units apart, as document 01
+// asks, and one generic over a unit would be no plainer.
 #[derive(Clone, Copy, Debug, PartialEq, Eq)]
 pub struct CalendarDays(pub u64);
 

@@ -17,7 +17,7 @@ const OPEN_WITHIN: u64 = 5;
 // The months after which a mandate lapses.
 const LAPSE_MONTHS: u64 = 36;
 
-// The first business day on or after the requested date, 0 if there is none.
+// The first business day on or after the requested date. 0 if there is none, as the rules have it: from a date in range there is one.
 #[tactic(auto, unfolding(model::specs::Deadlines::kept_due))]
 pub fn kept_due(requested: u64) -> u64
     ensures { result ≡ kept_due requested }

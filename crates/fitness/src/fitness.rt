@@ -40,7 +40,8 @@ fn row_count_fit(cells: &[u64], most: usize) -> bool
     (cells.len() % STRIDE == 0) & (1 <= n) & (n <= most)
 }
 
-// Row counts and table sizes, all that the opening looks at.
+// Row counts and table sizes, all that the opening looks at. The tables come one by one: the opening has no book, since C lends it the
+// rows to be read alone, and one made for this test would be no plainer.
 #[tactic(auto, unfolding(crate::specs::Fitness::sizes_of))]
 pub fn sizes_fit(
     mandates: &[u64],

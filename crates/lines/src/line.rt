@@ -26,7 +26,7 @@ fn is_line(line: &[u8]) -> bool
     line.len() == LINE && line[COLUMNS] == LINE_END
 }
 
-// The last five fields of a line, behind the first four. They have a function of their own because the compiler takes what comes after
+// The last five fields of a line, behind the first four: numbers as they were read, whatever they mean. They have a function of their own because the compiler takes what comes after
 // many tests for rare, and does not inline it.
 #[tactic(auto, using(crate::proofs::Laws::Line::fields_are))]
 fn later_fields(line: &[u8], kind: u64, date: u64, mandate: u64, a: u64) -> Result<Event, Refusal>

@@ -39,7 +39,7 @@ impl Model for KeptPresentation {
     ghost inverse = { λ p. record { asked = p; due = kept_due p.requested } };
 }
 
-// Whether the mandate takes the sequence code: 0 FRST, 1 RCUR, 2 FNAL, 3 OOFF.
+// Whether the mandate takes the sequence code, a number as in `Presentation`: 0 FRST, 1 RCUR, 2 FNAL, 3 OOFF.
 fn takes_code(m: Mandate, code: u64) -> bool
     ensures { result ≡ takes m code }
 {
@@ -52,7 +52,7 @@ fn takes_code(m: Mandate, code: u64) -> bool
     (code == 1) | (code == 2)
 }
 
-// Refusals 6 to 12 of a collect on the mandate m, which is there or not: beside it, no Option of it, as in `judge_change`.
+// Refusals 6 to 12 of a collect on the mandate m, which is there or not: no Option of it, here and below, for the reason at `judge_change`.
 fn judge_terms(
     book: &BookMut,
     date: u64,
@@ -111,7 +111,7 @@ fn judge_collect(
     judge_due(date, p, m)
 }
 
-// FNAL and OOFF close the mandate.
+// FNAL and OOFF, codes 2 and 3, close the mandate.
 fn standing_after(code: u64, standing: Standing) -> Standing
     ensures { result ≡ standing_after code standing }
 {

@@ -25,7 +25,7 @@ pub(crate) fn mandate_there(book: &BookMut, found: Option<usize>) -> bool
     is_used(found, book.mandates, book.header.mandates)
 }
 
-// The mandate in the row that was found.
+// The mandate in the row that was found, and in the first row where none was: `mandate_there` tells them apart.
 #[tactic(auto, unfolding(tables::specs::Rows::mandate_at))]
 pub(crate) fn mandate_in(book: &BookMut, found: Option<usize>) -> Mandate
     ensures { result ≡ mandate_in found (ledger_in book.now) }
@@ -72,8 +72,8 @@ fn names_added(change: Change, creditors: &[u64]) -> bool
     }
 }
 
-// `there` stands beside the mandate, no Option of it: a later test is to see a mandate too where none is there, so that which tests are
-// made does not depend on an earlier one; an Option would be no plainer.
+// `there` stands beside the mandate, no Option of it: `first_failing` takes all tests at once, so each is made of a mandate in any case;
+// with an Option each of them would ask once more whether there is one.
 fn judge_change(
     book: &BookMut,
     date: u64,

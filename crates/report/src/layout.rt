@@ -31,7 +31,7 @@ fn put_answer(out: &mut [u8], at: usize, number: u64, answer: u64)
     out[at + 9] = LINE_END;
 }
 
-// Writes the position line of a party to a place that has room for it.
+// Writes the position line of a party to a place that has room for it; the kind is a number, as below.
 #[tactic(auto, using(crate::proofs::Laws::Layout::position_line_written))]
 fn put_position(out: &mut [u8], at: usize, kind: u64, number: u64, cents: i64)
     requires { at + position_length ≤ length out.old }

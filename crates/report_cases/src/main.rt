@@ -1,6 +1,5 @@
 // Cases of the text of the program `ledger`, for comparison with lines that document 01 shows or that follow from it, as
-// tests/report_oracle.py works them out. Each call stands by itself with its numbers, and not in a loop over a table: the oracle reads the
-// calls in this text.
+// tests/report_oracle.py works them out. Each call stands by itself with its numbers: the buffers differ, and a table of cases would be no plainer.
 #![tactic(auto)]
 
 use report::{cut, layout};
