@@ -15,7 +15,7 @@ const SLOTS: usize = 4096;
 const ROWS: usize = COLLECTION_ROWS;
 
 // The first row of each slot, for each row the next one of its slot, and the rows that are covered. Rows are linked by their numbers, counted
-// from 1 with 0 for none, and no map holds them: there is no heap, and an Option would double the memory.
+// from 1 with 0 for none, and no map holds them: there is no heap.
 #[derive(Clone, Copy, Debug, PartialEq, Eq)]
 pub struct Index {
     pub first: [u16; SLOTS],

@@ -16,8 +16,8 @@ use tables::BookRef;
 // The bytes that a listing takes at most: a line for each party and bank, and one for the total.
 const ROOM: usize = (CREDITORS + DEBTORS + BANKS + 1) as usize * POSITION;
 
-// Writes the line of a position that is not 0, and gives the place behind it. The kind is a number, as a position line and a query have
-// it: any may be asked for.
+// Writes the line of a position that is not 0, and gives the place behind it. The kind is a number, as `position_line`
+// takes it.
 #[tactic(auto, using(crate::proofs::Laws::Listing::zero_written, crate::proofs::Laws::Listing::line_written, crate::proofs::Laws::Listing::line_long, report::proofs::Laws::Layout::position_fits_facts))]
 fn list_one(out: &mut [u8], at: usize, kind: u64, number: u64, cents: i64) -> usize
     requires { position_fits at kind number cents out.old ≡ true }
