@@ -1,9 +1,9 @@
 // An event acted on, by what its kind asks for and by the rows that were found of what it names: specs/Acting.
-ghost use Rattle.std.specs.Prelude.{◌≡◌, cond};
+ghost use Rattle.std.specs.Prelude.{◌≡◌, cond, None};
 ghost use Rattle.tables.specs.Ledger.{ledger_in, SameLoans};
 ghost use Rattle.tables.specs.Lookup.{lookup_since};
 ghost use Rattle.model.specs.Actions.{action_of};
-ghost use Rattle.book.specs.Acting.{names_mandate, names_collection, ActedOn};
+ghost use Rattle.book.specs.Acting.{names_mandate, names_collection, named_mandate, named_collection, ActedOn, ActedFrom};
 
 use checking::actions::action_of;
 use events::Event;
@@ -16,27 +16,32 @@ use tables::BookMut;
 use tables::lookup::find_since;
 use treatments::treat::treat;
 
-// The row of the mandate that an event names, looked for from a row on. What it shares with the collection's is `find_since`: one form
-// for both would take table, used rows, number and the test of the kind, and be as long as the two.
+// The number of the mandate that an event names.
+pub fn named_mandate(e: Event) -> Option<u64>
+    ensures { result ≡ named_mandate e }
+{
+    ((2 <= e.kind) & (e.kind <= 5)).then_some(e.mandate)
+}
+
+// The number of the collection that an event names.
+pub fn named_collection(e: Event) -> Option<u64>
+    ensures { result ≡ named_collection e }
+{
+    (5 <= e.kind).then_some(e.a)
+}
+
+// The row of the mandate that an event names, looked for from a row on.
 pub fn find_mandate(e: Event, mandates: &[u64], used: usize, since: usize) -> Option<usize>
     ensures { result ≡ cond (names_mandate e.kind) (lookup_since mandates.now used e.mandate since) None }
 {
-    if (2 <= e.kind) & (e.kind <= 5) {
-        find_since(mandates, used, e.mandate, since)
-    } else {
-        None
-    }
+    find_since(mandates, used, named_mandate(e)?, since)
 }
 
 // The row of the collection that an event names, looked for from a row on.
 pub fn find_collection(e: Event, collections: &[u64], used: usize, since: usize) -> Option<usize>
     ensures { result ≡ cond (names_collection e.kind) (lookup_since collections.now used e.a since) None }
 {
-    if 5 <= e.kind {
-        find_since(collections, used, e.a, since)
-    } else {
-        None
-    }
+    find_since(collections, used, named_collection(e)?, since)
 }
 
 // An event done to any lent memory, where `mandate` and `collection` are the rows of what it names. What the event names is not tested
@@ -58,4 +63,25 @@ pub fn act(
         Action::Collect(p) => collect(book, date, p, mandate, collection),
         Action::Treat(_, t) => treat(book, date, t, collection),
     }
+}
+
+// The same, where the rows of what it names are looked for from a row on in each table.
+pub fn act_from(
+    book: &mut BookMut,
+    e: Event,
+    mandates_since: usize,
+    collections_since: usize,
+) -> Result<(), Refusal>
+    ensures loans { SameLoans book.old book.new }
+    ensures acted { ActedFrom mandates_since collections_since (ledger_in book.old) e result (ledger_in book.new) }
+{
+    let view = book.view();
+    let mandate = find_mandate(e, view.mandates, view.header.mandates, mandates_since);
+    let collection = find_collection(
+        e,
+        view.collections,
+        view.header.collections,
+        collections_since,
+    );
+    act(book, e, mandate, collection)
 }

@@ -2,7 +2,7 @@
 ghost use Rattle.tables.specs.Ledger.{ledger_in, SameLoans};
 ghost use Rattle.book.specs.Events.{Taken};
 
-use crate::acting::{act, find_collection, find_mandate};
+use crate::acting::act_from;
 use events::Event;
 use events::limits::check;
 use fitness::fitness::is_fit;
@@ -18,8 +18,5 @@ pub fn take_event(book: &mut BookMut, e: Event) -> Result<(), Refusal>
         return Err(Refusal::UnfitMemory);
     }
     check(e)?;
-    let view = book.view();
-    let mandate = find_mandate(e, view.mandates, view.header.mandates, 0);
-    let collection = find_collection(e, view.collections, view.header.collections, 0);
-    act(book, e, mandate, collection)
+    act_from(book, e, 0, 0)
 }

@@ -1,6 +1,6 @@
 // The table of Easter Sundays: specs/Easter.
-ghost use Rattle.std.specs.Prelude.{◌≡◌, ◌+◌, ◌-◌};
-ghost use Rattle.calendar.specs.Gregorian.{month_day, first_year};
+ghost use Rattle.std.specs.Prelude.{◌≡◌, ◌+◌, ◌-◌, ◌≤◌};
+ghost use Rattle.calendar.specs.Gregorian.{month_day, first_year, last_year};
 ghost use Rattle.calendar.specs.DayNumber.{year_start, day_number};
 ghost use Rattle.calendar.specs.Easter.{easter_sunday, easter_of, easter_day_of};
 
@@ -35,7 +35,8 @@ const EASTER: [u16; 200] = [
 // Easter Sunday of a year, as MMDD. Only this function reads the table.
 #[tactic(auto, using(crate::proofs::Laws::Easter::table_of_year))]
 fn easter_in(year: Year) -> u64
-    ensures { result ≡ month_day (easter_sunday year) }
+    ensures date { result ≡ month_day (easter_sunday year) }
+    ensures inside { (first_year ≤ year) × (year ≤ last_year) }
 {
     u64::from(EASTER[(year.0 - 2000) as usize])
 }
@@ -45,8 +46,6 @@ fn easter_in(year: Year) -> u64
 pub(crate) fn easter_place(year: Year) -> u64
     ensures { year_start (year - first_year) + result ≡ day_number (easter_sunday year) }
 {
-    // that the year is one of the table's
-    let _ = &year.0;
     let md = easter_in(year);
     let l = year.leap_day();
     if md < 400 {

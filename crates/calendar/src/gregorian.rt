@@ -97,8 +97,8 @@ impl Year {
         None
     }
 
-    // 1 in a leap year, else 0: of the years of the calendar that 4 divides only 2100 is none. It is another way to reckon than that
-    // for any year, and a faster one.
+    // 1 in a leap year, else 0: of the years of the calendar that 4 divides only 2100 is none, so that one division does where any year
+    // takes three.
     #[tactic(auto, using(crate::proofs::Laws::Gregorian::leap_day_in))]
     pub(crate) fn leap_day(self) -> u64
         ensures { result ≡ leap_day self }

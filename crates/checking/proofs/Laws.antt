@@ -1,3 +1,2 @@
--- Laws of the checking order. Only these files unfold its definitions; callers cite the laws.
-pub mod Order  -- the order of the tests is the model's
+-- Laws of an action's answer and effect. Callers cite them.
 pub mod Calls  -- an action refused or accepted

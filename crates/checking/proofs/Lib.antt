@@ -1,1 +1,1 @@
-pub mod Laws  -- the laws of the checking order, for the crates above
+pub mod Laws  -- the laws of an answer and its effect, for the crates above

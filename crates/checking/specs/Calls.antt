@@ -1,6 +1,6 @@
 -- What an action needs and leaves: the rows of what it names, an answer, and the ledger with the action's effect where it is
 -- accepted. Assumes nothing.
-use Rattle.std.specs.Prelude.{◌≡◌, Bool, true, false, List, ℕ, ltb, Option, Some, None, Result}
+use Rattle.std.specs.Prelude.{◌≡◌, Bool, true, false, List, ℕ, ltb, Option, Some, None, Result, Ok, Err}
 use Rattle.tables.specs.Ledger.{Ledger}
 use Rattle.tables.specs.Lookup.{existing}
 use Rattle.model.specs.Step.{after_answer}
@@ -21,6 +21,12 @@ used_row cells used None = false
 abbrev pub found_row : Option ℕ → ℕ
 found_row (Some row) = row
 found_row None = 0
+
+-- ---- the verdict: refused, or what passed every test
+
+abbrev pub verdict_by : {A : Type 0} → Result Unit Refusal → A → Result A Refusal
+verdict_by (Ok tt) a = Ok a
+verdict_by (Err r) a = Err r
 
 -- ---- what is left
 

@@ -1,3 +1,2 @@
 -- What the contracts of the code for an event cite besides the model.
-pub mod Order  -- the checking order over tests that have been made
 pub mod Calls  -- an answer, and the ledger after it

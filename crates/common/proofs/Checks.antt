@@ -7,12 +7,12 @@ use Prim.Native.Nat.{ℕ, zero, suc}
 use Rattle.std.proofs.Common.{Result, Ok, Err}
 use Rattle.std.specs.Result.{is_err}
 use Rattle.common.specs.Checks.{Check, judged}
-use Rattle.common.proofs.Tests.{never, and_halves}
+use Rattle.common.proofs.Tests.{and_halves}
 
 -- a test before an error, and what follows where it passes
 pub check_passes : {A E : Type 0} (b : Bool) (x f : Result A E) {a : A} → is_err f ≡ true → cond b x f ≡ Ok a → (b ≡ true) × (x ≡ Ok a)
 check_passes true x f r e = (refl, e)
-check_passes false x (Ok c) r e = absurd (never r refl)
+check_passes false x (Ok c) r e = absurd cc
 check_passes false x (Err d) r e = absurd cc
 
 -- the tests of an ordered list, by their places

@@ -1,30 +1,20 @@
 -- Laws of specs/Tests. Names: F-at reads one test out of F; F-true and F-false make F of its tests. Of one test and of two the laws
--- are std's: under other names, or without the tests that the facts name. Assumes nothing.
+-- are the library's: under other names, or without the tests that the facts name. Assumes nothing.
 use mathlib.Core.Path.{◌≡◌, refl}
 use mathlib.Core.Bool.{Bool, true, false, cond, not, ◌&&◌, ◌||◌}
 use mathlib.Core.List.{List, [], ◌∷◌}
-use mathlib.Core.Logic.{◌⊎◌, ⊎_elim}
+use mathlib.Core.Logic.{⊎_elim}
 use Prim.Native.Nat.{ℕ, zero, suc}
 use lib.ListN.{get_or}
-use Rattle.std.proofs.lemmas.Bool.{both_ways, not-true, not-false, and_parts, and_from, or_cases as or_ways, or_parts}
+use Rattle.std.proofs.lemmas.Bool.{not-true, and_parts, and_from, or_cases, or_parts}
 pub use Rattle.std.proofs.lemmas.Bool.{true_from_ne_false as true_unless, false_from_ne_true as false_unless}
+pub use borrow.Table.Steps.{cases as either}  -- what each way that a test can go gives
 use Rattle.common.specs.Tests.{and_all, all_of, or_any, any_of}
 
 -- ---- one test
 
--- what each way that a test can go gives
-pub either : {P : Type 0} (b : Bool) → (b ≡ true → P) → (b ≡ false → P) → P
-either true f g = f refl
-either false f g = g refl
-
-pub never : {b : Bool} → b ≡ true → b ≡ false → ⊥
-never {b} p q = both_ways b q p
-
 pub not_true : {b : Bool} → not b ≡ true → b ≡ false
 not_true {b} e = not-true b e
-
-pub not_false : {b : Bool} → not b ≡ false → b ≡ true
-not_false {b} e = not-false b e
 
 -- whichever way it goes
 pub same_arms : {A : Type 0} (b : Bool) (a : A) → cond b a a ≡ a
@@ -38,9 +28,6 @@ and_halves a {b} e = and_parts a b e
 
 pub and_true : {a b : Bool} → a ≡ true → b ≡ true → a && b ≡ true
 and_true {a} {b} p q = and_from a b p q
-
-pub or_cases : (a : Bool) {b : Bool} → a || b ≡ true → (a ≡ true) ⊎ (b ≡ true)
-or_cases a {b} e = or_ways a b e
 
 -- ---- all_of
 
@@ -67,11 +54,11 @@ Cases P (b ∷ bs) = (b ≡ true → P) × Cases P bs
 
 or_any_cases : (P : Type 0) (a : Bool) (bs : List Bool) → (a ≡ true → P) → Cases P bs → or_any a bs ≡ true → P
 or_any_cases P a [] f fs e = f e
-or_any_cases P a (b ∷ bs) f fs e = or_any_cases P (a || b) bs (λ o. ⊎_elim f fs.0 (or_cases a o)) fs.1 e
+or_any_cases P a (b ∷ bs) f fs e = or_any_cases P (a || b) bs (λ o. ⊎_elim f fs.0 (or_cases a b o)) fs.1 e
 
 -- one of the tests holds, so what each gives is given
 pub any_of_cases : (P : Type 0) (bs : List Bool) → Cases P bs → any_of bs ≡ true → P
-any_of_cases P [] fs e = absurd (never e refl)
+any_of_cases P [] fs e = absurd cc
 any_of_cases P (b ∷ bs) fs e = or_any_cases P b bs fs.0 fs.1 e
 
 or_any_first : (a : Bool) (bs : List Bool) → or_any a bs ≡ false → a ≡ false

@@ -12,7 +12,7 @@ use Rattle.std.specs.Prelude.{◌&&◌, List, [], ◌∷◌}
 use Rattle.std.specs.List.{list_all, range_with_len, zip}
 use Rattle.std.proofs.Common.{get_or, length}
 use Rattle.common.specs.Walk.{all_from, first_from}
-use Rattle.common.proofs.Tests.{never, either}
+use Rattle.common.proofs.Tests.{either}
 
 pub one_more : (i n : ℕ) → i < n → n - i ≡ suc (n - (i + 1))
 one_more i n h = omega arith
@@ -29,7 +29,7 @@ all_from_from t i (suc left) k e lo hi =
     (λ s. rw (← s) q)
     (λ l. all_from_from t (i + 1) left k (rw q at e) (omega arith) (omega arith))
     (eq-or-lt_of_le lo))
-    (λ q. absurd (never e (rw q)))
+    (λ q. absurd cc)
 
 -- the test holds at each number of a walk that passed
 pub all_from_at : (t : ℕ → Bool) (n : ℕ) → all_from t 0 n ≡ true → (k : ℕ) → k < n → t k ≡ true

@@ -4,7 +4,7 @@ ghost use Rattle.model.specs.Deadlines.{period as periodIn, core, period_of, las
 
 use calendar::periods::{is_after, period_end};
 use calendar::{BusinessDays, CalendarDays, Months, Period};
-use model::Way;
+use model::{Authorisation, Way};
 
 fn period(months: u64, days: u64, business: u64) -> Period
     ensures { result ≡ periodIn months days business }
@@ -22,8 +22,8 @@ fn period_of(way: Way) -> Period
 {
     match way {
         Way::ByReturn => period(0, 0, 5),
-        Way::ByRefund(_, 0) => period(0, 56, 2),
-        Way::ByRefund(..) => period(13, 30, 4),
+        Way::ByRefund(_, Authorisation::Authorised) => period(0, 56, 2),
+        Way::ByRefund(_, Authorisation::Unauthorised) => period(13, 30, 4),
         Way::ByReversal => period(0, 0, 5),
     }
 }

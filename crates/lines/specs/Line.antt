@@ -84,13 +84,9 @@ read_line l =
 
 -- ---- writing to a lent buffer
 
-abbrev pub written_of : Result Unit Refusal → Result Unit Refusal
-written_of (Ok tt) = (Ok tt)
-written_of (Err r) = Err r
-
 -- 2, then 3, 4 and 5
 unfoldable pub write_answer : Event → List ℕ → Result Unit Refusal
-write_answer e out = written_of (judged (check (leb line_length (length out)) (Err UnfitMemory) ∷ limit_checks e) (Ok tt))
+write_answer e out = judged (check (leb line_length (length out)) (Err UnfitMemory) ∷ limit_checks e) (Ok tt)
 
 abbrev pub bytes_by : Result Unit Refusal → Event → List ℕ → List ℕ
 bytes_by (Ok tt) e out = line_of e ++ drop line_length out

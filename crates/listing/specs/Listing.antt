@@ -11,7 +11,7 @@ use Rattle.fitness.specs.Fitness.{fit}
 use Rattle.model.specs.Step.{answer_number}
 use Rattle.report.specs.Layout.{answer_length, position_length}
 use Rattle.run.specs.Run.{fit_number, end_lines, end_bytes, figures_output, positions_output}
-use Rattle.listing.specs.declared.ending.Ending.{Ending}
+use Rattle.report.specs.declared.layout.Progress.{Progress}
 
 -- ---- the end of the input
 
@@ -20,10 +20,10 @@ abbrev pub end_fits : List ℕ → Bool
 end_fits out = leb answer_length (length out)
 
 -- the lines answered then, and the bytes written
-abbrev pub ended : ℕ → ℕ → Ending
+abbrev pub ended : ℕ → ℕ → Progress
 ended lines partial = record { lines = end_lines lines partial; written = length (end_bytes lines partial) }
 
-pub record EndTaken (lines partial : ℕ) (out : List ℕ) (r : Result Ending Refusal) (out' : List ℕ) : Type 0 where
+pub record EndTaken (lines partial : ℕ) (out : List ℕ) (r : Result Progress Refusal) (out' : List ℕ) : Type 0 where
   pub answer_is : r ≡ cond (end_fits out) (Ok (ended lines partial)) (Err UnfitMemory)
   pub number_is : answer_number r ≡ fit_number (end_fits out)
   pub out_is : out' ≡ cond (end_fits out) (pasted 0 (end_bytes lines partial) out) out

@@ -12,6 +12,8 @@ use Rattle.model.specs.declared.Change.TheVariants.{NewBank, NewCreditor, Cancel
 use Rattle.model.specs.declared.Presentation.{Presentation}
 use Rattle.model.specs.declared.Treatment.TheVariants.{Settle, Reject, Undo}
 use Rattle.model.specs.declared.Way.TheVariants.{ByReturn, ByRefund, ByReversal}
+use Rattle.model.specs.declared.Authorisation.{Authorisation}
+use Rattle.model.specs.declared.Authorisation.TheVariants.{Authorised, Unauthorised}
 
 -- ---- the codes
 
@@ -41,6 +43,10 @@ presentation e =
 abbrev pub amendment : Event → Change
 amendment e = cond (eqb e.code 0) (NewBank e.c) (NewCreditor e.a)
 
+-- refund: code 0 authorised, code 1 unauthorised
+abbrev pub authorisation : ℕ → Authorisation
+authorisation code = cond (eqb code 0) Authorised Unauthorised
+
 -- ---- the kinds
 
 unfoldable pub action_of : Event → Action
@@ -53,5 +59,5 @@ action_of e =
     (cond (eqb e.kind 6) (Treat e.a Settle)
     (cond (eqb e.kind 7) (Treat e.a Reject)
     (cond (eqb e.kind 8) (Treat e.a (Undo ByReturn))
-    (cond (eqb e.kind 9) (Treat e.a (Undo (ByRefund e.b e.code)))
+    (cond (eqb e.kind 9) (Treat e.a (Undo (ByRefund e.b (authorisation e.code))))
     (Treat e.a (Undo ByReversal))))))))))  -- 10; any other kind is refused by 3 before this is asked

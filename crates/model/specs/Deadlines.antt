@@ -7,6 +7,7 @@ use Rattle.calendar.specs.Periods.{days_after, months_after, period_end, is_afte
 use Rattle.calendar.specs.declared.Period.{Period}
 use Rattle.model.specs.declared.Way.{Way}
 use Rattle.model.specs.declared.Way.TheVariants.{ByReturn, ByRefund, ByReversal}
+use Rattle.model.specs.declared.Authorisation.TheVariants.{Authorised, Unauthorised}
 
 -- ---- the kept due
 
@@ -56,7 +57,8 @@ core = record {
 
 abbrev pub period_of : Profile → Way → Period
 period_of p ByReturn = p.returning
-period_of p (ByRefund rate code) = cond (eqb code 0) p.authorised p.unauthorised
+period_of p (ByRefund rate Authorised) = p.authorised
+period_of p (ByRefund rate Unauthorised) = p.unauthorised
 period_of p ByReversal = p.reversing
 
 unfoldable pub last_day : Way → ℕ → Option ℕ

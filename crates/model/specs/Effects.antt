@@ -138,7 +138,7 @@ new_collection creditors p m = record {
 
 abbrev pub undoing_of : Way → Undoing
 undoing_of ByReturn = Return
-undoing_of (ByRefund rate code) = Refund
+undoing_of (ByRefund rate authorisation) = Refund
 undoing_of ByReversal = Reversal
 
 abbrev pub state_after : Treatment → ℕ → State
@@ -152,7 +152,7 @@ treated t date k = with_state k (state_after t date)
 -- what an undoing posts, with the calendar days since the settled day
 abbrev pub undone : Way → ℕ → ℕ → ℕ → Postings
 undone ByReturn amount settled date = reversed amount
-undone (ByRefund rate code) amount settled date = refunded amount (compensationFor amount rate (days_since settled date))
+undone (ByRefund rate authorisation) amount settled date = refunded amount (compensationFor amount rate (days_since settled date))
 undone ByReversal amount settled date = reversed amount
 
 -- a settle, return, refund or reversal posts; a reject does not

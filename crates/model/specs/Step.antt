@@ -6,6 +6,8 @@ use Rattle.common.specs.Checks.{Check, check, judged}
 use Rattle.refusals.specs.declared.Refusal.{Refusal}
 pub use Rattle.refusals.specs.Refusals.{answer_number}  -- the paper's number of an answer
 use Rattle.refusals.specs.declared.Refusal.TheVariants.{UnfitMemory, BadField}
+use Rattle.model.specs.declared.Figure.{Figure}
+use Rattle.model.specs.declared.Figure.TheVariants.{Creditor, Debtor, Bank, Compensation}
 use Rattle.events.specs.declared.Event.{Event}
 use Rattle.calendar.specs.Gregorian.{in_range}
 use Rattle.events.specs.Limits.{within, kinds, fields_fit, checked}
@@ -67,6 +69,21 @@ after l e = after_answer (answer l e) (effect l e.date (action_of e)) l
 -- ---- a position query
 
 -- the kinds are 1 creditor, 2 debtor, 3 bank; 4, whose number is 0, is total compensation
+abbrev pub kind_of : Figure → ℕ
+kind_of Creditor = 1
+kind_of Debtor = 2
+kind_of Bank = 3
+kind_of Compensation = 4
+
+-- the figure of a kind
+abbrev pub figure_told : ℕ → Result Figure Refusal
+figure_told kind =
+    cond (eqb kind 1) (Ok Creditor)
+    (cond (eqb kind 2) (Ok Debtor)
+    (cond (eqb kind 3) (Ok Bank)
+    (cond (eqb kind 4) (Ok Compensation)
+    (Err BadField))))
+
 abbrev pub in_query : ℕ → ℕ → Bool
 in_query kind number =
     cond (eqb kind 1) (leb 1 number && leb number creditor_count)

@@ -14,7 +14,7 @@ pub enum Change {
 }
 
 // A collection to be presented: the numbers of its mandate and its own, the amount in cents, the requested due date, the
-// sequence code. Codes are numbers, no enums, here and below: an action is told of any event, one with any code too.
+// sequence code. It is a number, no enum: an action is told of any event, one with any code too.
 #[derive(Clone, Copy)]
 pub struct Presentation {
     pub mandate: u64,
@@ -24,11 +24,18 @@ pub struct Presentation {
     pub code: u64,
 }
 
-// How a settled collection is undone. A refund has its rate, and code 0 authorised, 1 unauthorised.
+// Whether the debtor had authorised what is refunded.
+#[derive(Clone, Copy)]
+pub enum Authorisation {
+    Authorised,
+    Unauthorised,
+}
+
+// How a settled collection is undone, a refund at its rate.
 #[derive(Clone, Copy)]
 pub enum Way {
     ByReturn,
-    ByRefund(u64, u64),
+    ByRefund(u64, Authorisation),
     ByReversal,
 }
 
@@ -65,4 +72,50 @@ pub enum Action {
     ChangeMandate(u64, Change),
     Collect(Presentation),
     Treat(u64, Treatment),
+}
+
+// What a query asks for and a listing tells of: the position of a creditor, a debtor or a bank, or the total compensation.
+#[derive(Clone, Copy)]
+pub enum Figure {
+    Creditor,
+    Debtor,
+    Bank,
+    Compensation,
+}
+
+// The kind of a figure.
+impl From<Figure> for u64 {
+    ghost use Rattle.std.specs.Prelude.{◌≡◌};
+    ghost use Rattle.model.specs.Step.{kind_of};
+
+    ghost from_gives = { λ figure kind. kind ≡ kind_of figure };
+
+    fn from(figure: Figure) -> u64 {
+        match figure {
+            Figure::Creditor => 1,
+            Figure::Debtor => 2,
+            Figure::Bank => 3,
+            Figure::Compensation => 4,
+        }
+    }
+}
+
+// The figure of a kind: no other number is a kind.
+impl TryFrom<u64> for Figure {
+    type Error = Refusal;
+
+    ghost use Rattle.std.specs.Prelude.{◌≡◌};
+    ghost use Rattle.model.specs.Step.{figure_told};
+
+    ghost try_from_gives = { λ kind r. r ≡ figure_told kind };
+
+    fn try_from(kind: u64) -> Result<Figure, Refusal> {
+        match kind {
+            1 => Ok(Figure::Creditor),
+            2 => Ok(Figure::Debtor),
+            3 => Ok(Figure::Bank),
+            4 => Ok(Figure::Compensation),
+            _ => Err(Refusal::BadField),
+        }
+    }
 }

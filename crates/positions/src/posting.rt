@@ -5,6 +5,7 @@ ghost use Rattle.positions.specs.Answers.{capacity, entry_index, sizes_answer, p
 
 use crate::PostError;
 use common::POSITION_LIMIT;
+use refusals::ensure;
 
 // The numbers that a posting adds lie within this on either side of 0.
 const CAPACITY: u64 = 4000000000000000000;
@@ -59,11 +60,10 @@ fn entry_of(positions: &[i64], number: u64) -> Result<usize, PostError>
 fn sizes_fit(position: i64, amount: i64) -> Result<(), PostError>
     ensures { result ≡ sizes_answer position amount }
 {
-    if in_capacity(position) && in_capacity(amount) {
-        Ok(())
-    } else {
-        Err(PostError::TooLarge)
-    }
+    ensure(
+        in_capacity(position) && in_capacity(amount),
+        PostError::TooLarge,
+    )
 }
 
 // Posts an amount to the position of a number.

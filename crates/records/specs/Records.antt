@@ -1,6 +1,6 @@
 -- Events 1 to 5 by the rows that were found of what they name: refusals 6 to 14 that concern each, in checking order, and the ledger
 -- where it is accepted. That they are the model's where the rows are those of the numbers: proofs/Laws/Records. Assumes nothing.
-use Rattle.std.specs.Prelude.{Bool, cond, not, ◌&&◌, List, [], ◌∷◌, ◌++◌, ℕ, ◌-◌, leb, ltb, length, set, Option, Result, Ok, Err}
+use Rattle.std.specs.Prelude.{Bool, cond, not, ◌&&◌, List, [], ◌∷◌, ℕ, ◌-◌, leb, ltb, length, set, Option, Result, Ok, Err}
 use Rattle.common.specs.Checks.{Check, check, judged}
 use Rattle.refusals.specs.declared.Refusal.{Refusal}
 use Rattle.refusals.specs.declared.Refusal.TheVariants.{BeforeLatest, AlreadyExists, DoesNotExist, NoRowLeft, NotLive, WrongSequence, BadTiming, Lapsed}
@@ -67,11 +67,8 @@ change_checks latest date c there m creditors =
     ∷ check (stands_live m.standing) (Err NotLive)
     ∷ []
 
-abbrev pub change_judged : ℕ → ℕ → Change → Bool → Mandate → List ℕ → Result Unit Refusal
-change_judged latest date c there m creditors = judged (change_checks latest date c there m creditors) (Ok tt)
-
 abbrev pub change_answer : Option ℕ → Ledger → ℕ → Change → Result Unit Refusal
-change_answer found l date c = change_judged l.latest date c (mandate_there found l) (mandate_in found l) l.creditors
+change_answer found l date c = judged (change_checks l.latest date c (mandate_there found l) (mandate_in found l) l.creditors) (Ok tt)
 
 abbrev pub change_effect : Option ℕ → Ledger → ℕ → Change → Ledger
 change_effect found l date c = keep_mandate (dated l date) (found_row found) (changed c (mandate_in found l))
@@ -86,36 +83,21 @@ abbrev pub standing_after : ℕ → Standing → Standing
 standing_after code standing = cond (closes code) Closed standing
 
 -- of the mandate m, which is there or not; a row is left or not
-abbrev pub mandate_terms : ℕ → ℕ → Presentation → Bool → Option ℕ → Bool → Mandate → List (Check (Result Unit Refusal))
-mandate_terms latest date p there collection room m =
+abbrev pub collect_checks : ℕ → ℕ → Presentation → Bool → Option ℕ → Bool → Mandate → List (Check (Result Unit Refusal))
+collect_checks latest date p there collection room m =
     check (leb latest date) (Err BeforeLatest)
     ∷ check (not (is_found collection)) (Err AlreadyExists)
     ∷ check there (Err DoesNotExist)
     ∷ check room (Err NoRowLeft)
     ∷ check (stands_live m.standing) (Err NotLive)
     ∷ check (takes m p.code) (Err WrongSequence)
-    ∷ []
-
-abbrev pub date_terms : ℕ → Presentation → Mandate → List (Check (Result Unit Refusal))
-date_terms date p m =
-    check (timely date p.requested) (Err BadTiming)
+    ∷ check (timely date p.requested) (Err BadTiming)
     ∷ check (not (lapsed_for (kept_due p.requested) m.presented m.signed)) (Err Lapsed)
     ∷ []
 
-abbrev pub collect_checks : ℕ → ℕ → Presentation → Bool → Option ℕ → Bool → Mandate → List (Check (Result Unit Refusal))
-collect_checks latest date p there collection room m = mandate_terms latest date p there collection room m ++ date_terms date p m
-
-abbrev pub collect_judged : ℕ → ℕ → Presentation → Bool → Option ℕ → Bool → Mandate → Result Unit Refusal
-collect_judged latest date p there collection room m = judged (collect_checks latest date p there collection room m) (Ok tt)
-
--- the verdict: refused, or what is presented
-abbrev pub verdict_by : Result Unit Refusal → Presentation → Result Presentation Refusal
-verdict_by (Ok tt) p = Ok p
-verdict_by (Err r) p = Err r
-
 abbrev pub collect_answer : Option ℕ → Option ℕ → Ledger → ℕ → Presentation → Result Unit Refusal
 collect_answer mandate collection l date p =
-    collect_judged l.latest date p (mandate_there mandate l) collection (ltb l.collections_used (rows l.collections)) (mandate_in mandate l)
+    judged (collect_checks l.latest date p (mandate_there mandate l) collection (ltb l.collections_used (rows l.collections)) (mandate_in mandate l)) (Ok tt)
 
 abbrev pub collect_effect : Option ℕ → Ledger → ℕ → Presentation → Ledger
 collect_effect found l date p =

@@ -1,18 +1,17 @@
 // Event 5: a collection is presented.
-ghost use Rattle.std.specs.Prelude.{◌≡◌, ltb};
+ghost use Rattle.std.specs.Prelude.{◌≡◌};
 ghost use Rattle.tables.specs.Ledger.{ledger_in, SameLoans};
-ghost use Rattle.tables.specs.Rows.{rows};
 ghost use Rattle.model.specs.Checks.{takes};
 ghost use Rattle.model.specs.Deadlines.{kept_due};
 ghost use Rattle.model.specs.Effects.{presented_on, new_collection};
-ghost use Rattle.common.specs.Checks.{judged};
-ghost use Rattle.records.specs.Records.{mandate_there, mandate_terms, date_terms, collect_judged, verdict_by, standing_after, Collected};
+ghost use Rattle.checking.specs.Calls.{verdict_by};
+ghost use Rattle.records.specs.Records.{mandate_in, collect_answer, standing_after, Collected};
 
 use crate::mandates::{is_live, mandate_in, mandate_there};
-use checking::{first_failing, found_row, none_fails};
+use checking::found_row;
 use deadlines::collects::{is_lapsed, is_timely, kept_due};
 use model::Presentation;
-use refusals::Refusal;
+use refusals::{Refusal, ensure};
 use std::marker::Model;
 use tables::creditors::bank_of;
 use tables::rows::{put_record, rows_of};
@@ -52,63 +51,33 @@ fn takes_code(m: Mandate, code: u64) -> bool
     (code == 1) | (code == 2)
 }
 
-// Refusals 6 to 12 of a collect on the mandate m, which is there or not: no Option of it, here and below, for the reason at `judge_change`.
-fn judge_terms(
-    book: &BookMut,
-    date: u64,
-    p: Presentation,
-    there: bool,
-    collection: Option<usize>,
-    m: Mandate,
-) -> Result<(), Refusal>
-    ensures { result ≡ judged (mandate_terms book.now.header.latest date p there collection (ltb book.now.header.collections (rows book.now.collections.now)) m) (Ok tt) }
-{
-    let mut tests = none_fails();
-    tests.order = book.header.latest <= date;
-    tests.new = collection.is_none();
-    tests.there = there;
-    tests.room = book.header.collections < rows_of(book.collections);
-    tests.live = is_live(m.standing);
-    tests.sequence = takes_code(m, p.code);
-    first_failing(tests)
-}
-
-// Refusals 13 and 14 of a collect on the mandate m.
-fn judge_dates(date: u64, p: KeptPresentation, m: Mandate) -> Result<(), Refusal>
-    ensures { result ≡ judged (date_terms date p m) (Ok tt) }
-{
-    let mut tests = none_fails();
-    tests.time = is_timely(date, p.asked.requested);
-    tests.lapse = !is_lapsed(p.due, m.presented, m.signed);
-    first_failing(tests)
-}
-
-// The verdict by the dates of a collect on the mandate m: what is presented, with its kept due.
-fn judge_due(date: u64, p: Presentation, m: Mandate) -> Result<KeptPresentation, Refusal>
-    ensures { result ≡ verdict_by (judged (date_terms date p m) (Ok tt)) p }
-{
-    let kept = KeptPresentation {
-        asked: p,
-        due: kept_due(p.requested),
-    };
-    judge_dates(date, kept, m)?;
-    Ok(kept)
-}
-
-// The verdict on a collect on the mandate m: what is presented, with its kept due. The dates are worked out only where nothing
-// refuses before.
+// The verdict on a collect: the mandate, and what is presented with its kept due. The dates are worked out only where nothing refuses before.
 fn judge_collect(
     book: &BookMut,
     date: u64,
     p: Presentation,
-    there: bool,
+    mandate: Option<usize>,
     collection: Option<usize>,
-    m: Mandate,
-) -> Result<KeptPresentation, Refusal>
-    ensures { result ≡ verdict_by (collect_judged book.now.header.latest date p there collection (ltb book.now.header.collections (rows book.now.collections.now)) m) p }
+) -> Result<(Mandate, KeptPresentation), Refusal>
+    ensures { result ≡ verdict_by (collect_answer mandate collection (ledger_in book.now) date p) (mandate_in mandate (ledger_in book.now), p) }
 {
-    judge_terms(book, date, p, there, collection, m)?;
-    judge_due(date, p, m)
+    ensure(book.header.latest <= date, Refusal::BeforeLatest)?;
+    ensure(collection.is_none(), Refusal::AlreadyExists)?;
+    ensure(mandate_there(book, mandate), Refusal::DoesNotExist)?;
+    let m = mandate_in(book, mandate);
+    ensure(
+        book.header.collections < rows_of(book.collections),
+        Refusal::NoRowLeft,
+    )?;
+    ensure(is_live(m.standing), Refusal::NotLive)?;
+    ensure(takes_code(m, p.code), Refusal::WrongSequence)?;
+    ensure(is_timely(date, p.requested), Refusal::BadTiming)?;
+    let kept = KeptPresentation {
+        asked: p,
+        due: kept_due(p.requested),
+    };
+    ensure(!is_lapsed(kept.due, m.presented, m.signed), Refusal::Lapsed)?;
+    Ok((m, kept))
 }
 
 // FNAL and OOFF, codes 2 and 3, close the mandate.
@@ -162,9 +131,7 @@ pub fn collect(
     ensures loans { SameLoans book.old book.new }
     ensures collected { Collected mandate collection (ledger_in book.old) date p result (ledger_in book.new) }
 {
-    let there = mandate_there(book, mandate);
-    let m = mandate_in(book, mandate);
-    let kept = judge_collect(book, date, p, there, collection, m)?;
+    let (m, kept) = judge_collect(book, date, p, mandate, collection)?;
     let used = book.header.collections;
     let c = new_collection(book, kept, m);
     put_record(book.mandates, found_row(mandate), presented_on(kept, m));

@@ -3,19 +3,17 @@ ghost use Rattle.std.specs.Prelude.{◌≡◌, ◌-◌, ◌≤◌, length, set};
 ghost use Rattle.tables.specs.Ledger.{ledger_in, SameLoans};
 ghost use Rattle.records.specs.Records.{creditor_answer, CreditorAdded};
 
-use checking::{first_failing, none_fails};
-use refusals::Refusal;
+use refusals::{Refusal, ensure};
 use tables::BookMut;
 use tables::creditors::is_added;
 
 fn judge_creditor(book: &BookMut, date: u64, number: u64) -> Result<(), Refusal>
     ensures { result ≡ creditor_answer (ledger_in book.now) date number }
 {
-    let mut tests = none_fails();
-    tests.order = book.header.latest <= date;
-    tests.new = !is_added(book.creditors, number);
-    tests.there = (1 <= number) & (number <= book.creditors.len() as u64);
-    first_failing(tests)
+    ensure(book.header.latest <= date, Refusal::BeforeLatest)?;
+    ensure(!is_added(book.creditors, number), Refusal::AlreadyExists)?;
+    let exists = (1 <= number) & (number <= book.creditors.len() as u64);
+    ensure(exists, Refusal::DoesNotExist)
 }
 
 // The bank of a creditor of the table.

@@ -3,11 +3,12 @@ ghost use Rattle.std.specs.Prelude.{◌≡◌};
 ghost use Rattle.tables.specs.Ledger.{ledger_in, SameLoans};
 ghost use Rattle.model.specs.Checks.{change_names, stands_live};
 ghost use Rattle.model.specs.Effects.{changed};
-ghost use Rattle.records.specs.Records.{mandate_answer, MandateAdded, mandate_there, mandate_in, change_judged, MandateChanged};
+ghost use Rattle.checking.specs.Calls.{verdict_by};
+ghost use Rattle.records.specs.Records.{mandate_answer, MandateAdded, mandate_there, mandate_in, change_answer, MandateChanged};
 
-use checking::{first_failing, found_row, is_used, none_fails};
+use checking::{found_row, is_used};
 use model::Change;
-use refusals::Refusal;
+use refusals::{Refusal, ensure};
 use tables::creditors::is_added;
 use tables::rows::{put_record, record_at, rows_of};
 use tables::{BookMut, Mandate, Standing};
@@ -36,12 +37,13 @@ pub(crate) fn mandate_in(book: &BookMut, found: Option<usize>) -> Mandate
 fn judge_mandate(book: &BookMut, date: u64, m: Mandate, found: Option<usize>) -> Result<(), Refusal>
     ensures { result ≡ mandate_answer found (ledger_in book.now) date m }
 {
-    let mut tests = none_fails();
-    tests.order = book.header.latest <= date;
-    tests.new = found.is_none();
-    tests.there = is_added(book.creditors, m.creditor);
-    tests.room = book.header.mandates < rows_of(book.mandates);
-    first_failing(tests)
+    ensure(book.header.latest <= date, Refusal::BeforeLatest)?;
+    ensure(found.is_none(), Refusal::AlreadyExists)?;
+    ensure(is_added(book.creditors, m.creditor), Refusal::DoesNotExist)?;
+    ensure(
+        book.header.mandates < rows_of(book.mandates),
+        Refusal::NoRowLeft,
+    )
 }
 
 // Event 2: the mandate goes into the next row. `found` is the row of its number.
@@ -72,22 +74,21 @@ fn names_added(change: Change, creditors: &[u64]) -> bool
     }
 }
 
-// `there` stands beside the mandate, no Option of it: `first_failing` takes all tests at once, so each is made of a mandate in any case;
-// with an Option each of them would ask once more whether there is one.
+// Refusals 6 to 11 of a change of the mandate in the row that was found, or that mandate.
 fn judge_change(
     book: &BookMut,
     date: u64,
     change: Change,
-    there: bool,
-    m: Mandate,
-) -> Result<(), Refusal>
-    ensures { result ≡ change_judged book.now.header.latest date change there m book.now.creditors.now }
+    found: Option<usize>,
+) -> Result<Mandate, Refusal>
+    ensures { result ≡ verdict_by (change_answer found (ledger_in book.now) date change) (mandate_in found (ledger_in book.now)) }
 {
-    let mut tests = none_fails();
-    tests.order = book.header.latest <= date;
-    tests.there = there & names_added(change, book.creditors);
-    tests.live = is_live(m.standing);
-    first_failing(tests)
+    ensure(book.header.latest <= date, Refusal::BeforeLatest)?;
+    ensure(mandate_there(book, found), Refusal::DoesNotExist)?;
+    let m = mandate_in(book, found);
+    ensure(names_added(change, book.creditors), Refusal::DoesNotExist)?;
+    ensure(is_live(m.standing), Refusal::NotLive)?;
+    Ok(m)
 }
 
 #[tactic(auto, unfolding(model::specs::Effects::changed))]
@@ -118,9 +119,7 @@ pub fn change_mandate(
     ensures loans { SameLoans book.old book.new }
     ensures changed { MandateChanged found (ledger_in book.old) date change result (ledger_in book.new) }
 {
-    let there = mandate_there(book, found);
-    let m = mandate_in(book, found);
-    judge_change(book, date, change, there, m)?;
+    let m = judge_change(book, date, change, found)?;
     put_record(book.mandates, found_row(found), changed_mandate(change, m));
     book.header.latest = date;
     Ok(())

@@ -53,10 +53,10 @@ impl From<Refusal> for u64 {
 }
 
 // What comes of one test: a refusal where it is not passed.
-pub fn ensure(passed: bool, refusal: Refusal) -> Result<(), Refusal>
-    ensures { result ≡ cond passed (Ok tt) (Err refusal) }
+pub fn ensure<E: Drop>(passed: bool, error: E) -> Result<(), E>
+    ensures { result ≡ cond passed (Ok tt) (Err error) }
 {
-    if passed { Ok(()) } else { Err(refusal) }
+    if passed { Ok(()) } else { Err(error) }
 }
 
 // The paper's number of an answer: 0 where nothing is refused.

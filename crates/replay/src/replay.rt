@@ -9,7 +9,7 @@ ghost use Rattle.fitness.specs.Fitness.{fit};
 ghost use Rattle.book.specs.Events.{Taken};
 ghost use Rattle.replay.specs.Replay.{events_in, Replayed};
 
-use book::acting::{act, find_collection, find_mandate};
+use book::acting::act_from;
 use events::limits::check;
 use events::{Event, FIELDS};
 use opening::open_ledger;
@@ -41,10 +41,7 @@ fn take_fit(book: &mut BookMut, e: Event) -> Result<(), Refusal>
     ensures taken { Taken (ledger_in book.old) e result (ledger_in book.new) }
 {
     check(e)?;
-    let view = book.view();
-    let mandate = find_mandate(e, view.mandates, view.header.mandates, 0);
-    let collection = find_collection(e, view.collections, view.header.collections, 0);
-    act(book, e, mandate, collection)
+    act_from(book, e, 0, 0)
 }
 
 // The events one after the other. The tables were tested once, and every event keeps them fit.

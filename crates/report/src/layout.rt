@@ -20,6 +20,13 @@ const LAST_ANSWER: u64 = 999;
 
 const WIDEST_KIND: u64 = 99;
 
+// The lines answered and the bytes written so far.
+#[derive(Clone, Copy, Debug, PartialEq, Eq)]
+pub struct Progress {
+    pub lines: u64,
+    pub written: usize,
+}
+
 // Writes the answer line of a line's number to a place that has room for it.
 #[tactic(auto, using(crate::proofs::Laws::Layout::answer_line_written))]
 fn put_answer(out: &mut [u8], at: usize, number: u64, answer: u64)

@@ -2,16 +2,17 @@
 // memory safe, so a batch of events tests once.
 #![tactic(auto)]
 
-ghost use Rattle.std.specs.Prelude.{◌≡◌, ◌≤◌, ◌<◌};
+ghost use Rattle.std.specs.Prelude.{◌≡◌, ◌≤◌, length, get_or};
+ghost use Rattle.std.specs.List.{sum_by};
 ghost use Rattle.common.specs.Limits.{collection_row_limit};
+ghost use Rattle.tables.specs.CollectionColumn;
 ghost use Rattle.tables.specs.Ledger.{ledger_of};
-ghost use Rattle.tables.specs.Rows.{rows};
-ghost use Rattle.model.specs.Bounds.{sum_rows, moved_at};
 ghost use Rattle.safety.specs.Safety.{tag_moved, between, all_between, is_safe};
 
 use common::AMOUNT_LIMIT;
 use fitness::fitness::is_fit;
 use positions::COMPENSATION_LIMIT;
+use tables::lookup::used_rows;
 use tables::rows::STRIDE;
 use tables::{BookRef, collection_column};
 
@@ -29,16 +30,14 @@ fn tag_moved(tag: u64) -> u64
     }
 }
 
-// What the used rows have moved at most.
-fn sum_moved(cells: &[u64], used: usize) -> u64
-    requires { (used ≤ rows cells.now) × (used ≤ collection_row_limit) }
-    ensures { result ≡ sum_rows (moved_at cells.now) used }
+// What the rows have moved at most.
+fn sum_moved(rows: &[[u64; STRIDE]]) -> u64
+    requires { length rows.now ≤ collection_row_limit }
+    ensures { result ≡ sum_by (λ fields. tag_moved (get_or fields CollectionColumn.state 0)) rows.now }
 {
-    let mut sum = 0;
-    for row in 0..used {
-        sum += tag_moved(cells[row * STRIDE + collection_column::STATE]);
-    }
-    sum
+    rows.iter()
+        .map(|row| tag_moved(row[collection_column::STATE]))
+        .sum()
 }
 
 fn is_between(low: i64, high: i64, z: i64) -> bool
@@ -61,7 +60,7 @@ pub fn is_safe(book: &BookRef) -> bool
         return false;
     }
     let header = book.header;
-    let high = sum_moved(book.collections, header.collections) as i64;
+    let high = sum_moved(used_rows(book.collections, header.collections)) as i64;
     let low = -high;
     all_between(low, high, book.creditor_positions)
         & all_between(low, high, book.debtor_positions)

@@ -36,27 +36,22 @@ fn say_failed(rt: HostRuntime, name: &str, error: Error) {
     let _ = eprintln!(rt; "{name}: {reason}");
 }
 
-// Whether a call that failed by this error is made again: it would have had to wait, or was interrupted.
-fn is_passing(error: i32) -> bool
-    ensures { result ≡ is_passing error }
-{
-    matches!(error, EAGAIN | EINTR)
-}
-
 // What becomes of a call that failed by this error: it is made again, after a pause where it would have had to wait, or the
 // stream failed, and why is said.
 fn try_again(rt: HostRuntime, name: &str, error: Error) -> Result<(), StreamFailed>
     ensures { MatchOption (raw_os_error error) (is_ok result ≡ false) (λ number. is_ok result ≡ is_passing number) }
 {
-    let number = error.raw_os_error().unwrap_or(0);
-    if !is_passing(number) {
-        say_failed(rt, name, error);
-        return Err(StreamFailed);
+    match error.raw_os_error() {
+        Some(EINTR) => Ok(()),
+        Some(EAGAIN) => {
+            pause(rt);
+            Ok(())
+        }
+        _ => {
+            say_failed(rt, name, error);
+            Err(StreamFailed)
+        }
     }
-    if number == EAGAIN {
-        pause(rt);
-    }
-    Ok(())
 }
 
 // Reads once from an input of this name, behind the first `from` bytes of the buffer, which stay as they are, and gives the

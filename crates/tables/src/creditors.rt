@@ -2,7 +2,8 @@
 ghost use Rattle.std.specs.Prelude.{◌≡◌};
 ghost use Rattle.tables.specs.Ledger.{bank_of, added};
 
-// A creditor's bank, 0 where the creditor is not added: so the table and the rules have it, and lent memory may hold any number.
+// A creditor's bank, 0 where the creditor is not added: so the table and the rules have it, and lent memory may hold any number. One function
+// for this and `position_of` of positions would be no shorter than either, and both would stay to name it.
 #[tactic(auto, unfolding(crate::specs::Ledger::bank_of))]
 pub fn bank_of(creditors: &[u64], number: u64) -> u64
     ensures { result ≡ bank_of creditors.now number }

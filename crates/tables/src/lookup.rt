@@ -1,17 +1,28 @@
 // Lookup by number: specs/Lookup.
-ghost use Rattle.std.specs.Prelude.{◌||◌, ◌≡◌, ℕ, ◌+◌, ◌-◌, ◌≤◌, ◌<◌};
+ghost use Rattle.std.specs.Prelude.{◌||◌, ◌≡◌, ℕ, ◌+◌, ◌-◌, ◌≤◌, ◌<◌, map};
+ghost use Rattle.std.specs.List.{range_with_len};
 ghost use Rattle.common.specs.Walk.{first_from};
 ghost use Rattle.tables.specs.Lookup.{number_is, existing, lookup, lookup_since};
-ghost use Rattle.tables.specs.Rows.{rows};
+ghost use Rattle.tables.specs.Limits.{stride};
+ghost use Rattle.tables.specs.Rows.{rows, row_at};
 
 use crate::rows::{STRIDE, rows_of};
 
-// The used rows that there are. Cells and the number of used rows come apart, here and above: a book has them in a table and in its header, so
-// that a struct of both would be made for each call.
+// The used rows that there are. Cells and the number of used rows come apart, here and above: a book has them in a table and in its header.
+// A struct of both would be made for each call and hold no fact, since the number may be past the table's end.
 pub fn existing_of(cells: &[u64], used: usize) -> usize
     ensures { result ≡ existing cells.now used }
 {
     used.min(rows_of(cells))
+}
+
+// The cells of each of them, row by row.
+#[tactic(auto, using(crate::proofs::Laws::Lookup::rows_used))]
+pub fn used_rows(cells: &[u64], used: usize) -> &[[u64; STRIDE]]
+    ensures { result.now ≡ map (row_at stride cells.now) (range_with_len 0 (existing cells.now used)) }
+{
+    let (rows, _) = cells.as_chunks();
+    &rows[..existing_of(cells, used)]
 }
 
 // Whether one of the four rows from a row on has the number.
@@ -26,8 +37,8 @@ fn in_four(cells: &[u64], row: usize, number: u64) -> bool
         | (cells[b + 3 * STRIDE] == number)
 }
 
-// A row before which none has the number, from a row on: eight rows are passed over a turn, with one branch. Which of those rows
-// it is does not matter: the walk from each of them has one answer.
+// A row before which none has the number, from a row on: eight rows are passed over a turn. Which of those rows it is does not matter: the
+// walk from each of them has one answer.
 fn skip(cells: &[u64], from: usize, n: usize, number: u64) -> usize
     requires { (from ≤ n) × (n ≤ rows cells.now) }
     ensures { first_from (number_is cells.now number) Some None result (n - result) ≡ first_from (number_is cells.now number) Some None from (n - from) }
@@ -47,15 +58,11 @@ fn find_from(cells: &[u64], from: usize, n: usize, number: u64) -> Option<usize>
     requires { n ≤ rows cells.now }
     ensures { result ≡ first_from (number_is cells.now number) Some None from (n - from) }
 {
-    for i in from..n {
-        if cells[i * STRIDE] == number {
-            return Some(i);
-        }
-    }
-    None
+    (from..n).find(|&i| cells[i * STRIDE] == number)
 }
 
-// The lowest used row of a number from a row on, in either table. That row is looked at first.
+// The lowest used row of a number from a row on, in either table. That row is looked at first. It walks cells: by `position` over the used
+// rows as one slice a replay on full tables took 1.4 to 1.5 times as long.
 pub fn find_since(cells: &[u64], used: usize, number: u64, since: usize) -> Option<usize>
     ensures { result ≡ lookup_since cells.now used number since }
 {

@@ -347,7 +347,7 @@ impl Memory {
     // Every cell 0, no row used.
     fn zeros() -> Memory {
         Memory {
-            header: head(0, 0, 0, 0),
+            header: Header::default(),
             mandates: [0; MANDATES * STRIDE],
             collections: [0; COLLECTIONS * STRIDE],
             creditors: [0; 256],
@@ -405,6 +405,7 @@ fn head(latest: u64, mandates: usize, collections: usize, compensation: i64) -> 
     }
 }
 
+// A mandate of any code that a cell may hold.
 fn mandate(number: u64, code: u64) -> Mandate {
     Mandate {
         number,
@@ -499,7 +500,7 @@ fn row_counts(rt: &impl Print, cells: &[u64]) -> io::Result<()> {
 fn party_sizes(rt: &impl Print, cells: &[u64], cents: &[i64]) -> io::Result<()> {
     for (name, creditors, held, debtors, banks) in &PARTY_SIZES {
         let book = BookRef {
-            header: head(0, 0, 0, 0),
+            header: Header::default(),
             mandates: first(cells, STRIDE),
             collections: first(cells, STRIDE),
             creditors: first(cells, *creditors),

@@ -12,7 +12,7 @@ use Rattle.index.specs.Index.{Indexed}
 use Rattle.model.specs.Bounds.{Safe}
 use Rattle.report.specs.Layout.{answer_length}
 use Rattle.run.specs.Run.{Run, fit_number, run_at, clipped, answer_to, after_line, ended, line_output, take_text, text_output}
-use Rattle.text.specs.declared.text.Progress.{Progress}
+use Rattle.report.specs.declared.layout.Progress.{Progress}
 use Rattle.text.specs.declared.text.Lines.{Lines}
 use Rattle.text.specs.declared.text.Piece.{Piece}
 
@@ -39,9 +39,9 @@ pub record LineAnswered (l : Ledger) (p : Progress) (line out : List ℕ) (r : P
 
 -- the lines that have ended are answered, and the rest begins at a place
 pub record LinesAnswered (s : Run) (text out : List ℕ) (r : Lines) (l' : Ledger) (out' : List ℕ) : Type 0 where
-  pub run : take_text s text ≡ run_at l' r.lines (clipped (drop r.at text))
+  pub run : take_text s text ≡ run_at l' r.progress.lines (clipped (drop r.at text))
   pub bytes : out' ≡ pasted 0 (text_output s text) out
-  pub written : r.written ≡ length (text_output s text)
+  pub written : r.progress.written ≡ length (text_output s text)
   pub inside : r.at ≤ length text
 
 -- ---- the call

@@ -1,8 +1,8 @@
 // A text of events: the lines of the program's input, answered one after the other: specs/Text.
-ghost use Rattle.std.specs.Prelude.{◌≡◌, [], ◌+◌, ◌*◌, Ok, ◌&&◌, ◌/◌, ◌≤◌, min, leb, length, take, drop};
+ghost use Rattle.std.specs.Prelude.{◌≡◌, IfSome, [], ◌+◌, ◌*◌, Ok, ◌&&◌, ◌/◌, ◌≤◌, min, leb, length, take, drop};
 ghost use Rattle.digits.specs.Field.{pasted};
 ghost use Rattle.tables.specs.Ledger.{ledger_in, SameLoans};
-ghost use Rattle.tables.specs.Lookup.{MayStart};
+ghost use Rattle.index.specs.Index.{first_row};
 ghost use Rattle.fitness.specs.Fitness.{fit};
 ghost use Rattle.report.specs.Layout.{answer_length};
 ghost use Rattle.run.specs.Run.{run_at, clipped_length, clipped};
@@ -10,32 +10,24 @@ ghost use Rattle.book.specs.Events.{Taken};
 ghost use Rattle.events.specs.Limits.{checked};
 ghost use Rattle.text.specs.Text.{Known, LineTaken, LineAnswered, LinesAnswered, PieceTaken};
 
-use book::acting::{act, find_collection, find_mandate};
+use book::acting::{act_from, named_collection, named_mandate};
 use events::Event;
 use fitness::fitness::is_fit;
 use index::Index;
 use lines::line::{COLUMNS, read};
 use refusals::{Refusal, answer_number};
 use report::cut::line_end;
-use report::layout::{ANSWER, LAST_NUMBER, answer_line};
+use report::layout::{ANSWER, LAST_NUMBER, Progress, answer_line};
 use safety::is_safe;
 use tables::BookMut;
 
 // A partial line is clipped to one byte more than a sound line has.
 const CLIPPED: usize = COLUMNS + 2;
 
-// The lines answered and the bytes written so far.
-#[derive(Clone, Copy)]
-struct Progress {
-    lines: u64,
-    written: usize,
-}
-
-// The same, and where the first line begins that has not ended.
+// How far a text is answered, and where the first line begins that has not ended.
 #[derive(Clone, Copy)]
 struct Lines {
-    lines: u64,
-    written: usize,
+    progress: Progress,
     at: usize,
 }
 
@@ -58,30 +50,14 @@ struct KnownBook<'b, 'a, 'i> {
     ghost known: { ∥ Known safe mandates.now collections.now (ledger_in book.now) ∥₁ },
 }
 
+// A row from which a number may be looked for. The index is not followed where there is none.
+fn since(index: &Index, cells: &[u64], number: Option<u64>) -> usize
+    ensures { IfSome number (λ n. result ≡ first_row index.now cells.now n) }
+{
+    number.map_or(0, |n| index.first_row(cells, n))
+}
+
 impl KnownBook<'_, '_, '_> {
-    // A row from which the mandate that an event names may be looked for. The index is not followed for an event that names none.
-    // A form for both tables would take index, table, number and the test of the kind, and be as long as the two.
-    fn mandate_since(&self, e: Event) -> usize
-        ensures { MayStart self.now.book.now.mandates.now self.now.book.now.header.mandates e.mandate result }
-    {
-        if 5 < e.kind {
-            return 0;
-        }
-        self.mandates
-            .first_row(self.book.view().mandates, e.mandate)
-    }
-
-    // The same for the collection that it names.
-    fn collection_since(&self, e: Event) -> usize
-        ensures { MayStart self.now.book.now.collections.now self.now.book.now.header.collections e.a result }
-    {
-        if e.kind < 5 {
-            return 0;
-        }
-        self.collections
-            .first_row(self.book.view().collections, e.a)
-    }
-
     // Whether the memory is fit; memory that is known to be safe is not tested again.
     fn may_act(&self) -> bool
         ensures { result ≡ fit (ledger_in self.now.book.now) }
@@ -102,17 +78,10 @@ impl KnownBook<'_, '_, '_> {
         if !self.may_act() {
             return Err(Refusal::UnfitMemory);
         }
-        let mandate_since = self.mandate_since(e);
-        let collection_since = self.collection_since(e);
         let view = self.book.view();
-        let mandate = find_mandate(e, view.mandates, view.header.mandates, mandate_since);
-        let collection = find_collection(
-            e,
-            view.collections,
-            view.header.collections,
-            collection_since,
-        );
-        act(self.book, e, mandate, collection)
+        let mandates = since(self.mandates, view.mandates, named_mandate(e));
+        let collections = since(self.collections, view.collections, named_collection(e));
+        act_from(self.book, e, mandates, collections)
     }
 
     // A line: what the reader refuses, or what the ledger answers.
@@ -154,18 +123,14 @@ impl KnownBook<'_, '_, '_> {
         ensures answered { LinesAnswered (run_at (ledger_in self.old.book.now) lines []) text.now out.old result (ledger_in self.new.book.now) out.new }
     {
         // each line begins behind the end of the one before
-        let mut p = Progress { lines, written: 0 };
+        let mut progress = Progress { lines, written: 0 };
         let mut at = 0;
         while let Some(end) = line_end(text, at) {
             let next = end + 1;
-            p = self.end_line(p, &text[at..next], out);
+            progress = self.end_line(progress, &text[at..next], out);
             at = next;
         }
-        Lines {
-            lines: p.lines,
-            written: p.written,
-            at,
-        }
+        Lines { progress, at }
     }
 }
 
@@ -222,11 +187,11 @@ pub fn take_text(
         mandates: &mandates,
         collections: &collections,
     };
-    let done = tables.take_lines(lines, &text[..filled], out);
-    let partial = keep_partial(text, done.at, filled);
+    let Lines { progress, at } = tables.take_lines(lines, &text[..filled], out);
+    let partial = keep_partial(text, at, filled);
     Ok(Piece {
-        lines: done.lines,
+        lines: progress.lines,
         partial,
-        written: done.written,
+        written: progress.written,
     })
 }

@@ -1,11 +1,11 @@
 -- The table of specs/Thirteen holds: one test that the checker computes over all rows, and a lemma that reads each row out of it.
 -- Assumes nothing.
 use mathlib.Core.Path.{◌≡◌, refl, ap, ◌∙◌}
-use mathlib.Core.Bool.{Bool, true}
+use mathlib.Core.Bool.{Bool, true, ◌&&◌}
 use mathlib.Core.List.{List, [], ◌∷◌}
 use Prim.Native.Nat.{ℕ}
 use lib.Dec.{T, eqb, eqb→eq}
-use Rattle.common.proofs.Every.{both, both_left, both_right}
+use mir.Facts.{and_yes}
 use Rattle.calendar.specs.Easter.{easter_of}
 use Rattle.positions.specs.Compensation.{compensation as compensationFor, interest, half_up}
 use Rattle.tables.specs.Ledger.{Ledger}
@@ -40,14 +40,13 @@ holds? r = eqb (computed r.question) r.paper
 
 abbrev agree? : List Row → Bool
 agree? [] = true
-agree? (r ∷ rs) = both (holds? r) (agree? rs)
+agree? (r ∷ rs) = holds? r && agree? rs
 
 agree : (rs : List Row) → T (agree? rs) → Agree rs
 agree [] t = tt
-agree (r ∷ rs) t = (
-  said_computed r.question ∙ eqb→eq (computed r.question) r.paper (both_left (holds? r) (agree? rs) t),
-  agree rs (both_right (holds? r) (agree? rs) t),
-)
+agree (r ∷ rs) t =
+    let p = and_yes (holds? r) (agree? rs) t in
+    (said_computed r.question ∙ eqb→eq (computed r.question) r.paper p.0, agree rs p.1)
 
 pub thirteen : Thirteen
 unfolding table ruled_run easter_of compensationFor interest half_up

@@ -1,7 +1,7 @@
 -- Events 6 to 10 by the row that was found of the collection: refusals 6 to 17 that concern them, in checking order, what is to be posted,
 -- and the ledger where it is. That they are the model's on a fit ledger where the row is that of the number: `treat_ruled` of
 -- proofs/Laws/Ready. Assumes nothing.
-use Rattle.std.specs.Prelude.{Bool, cond, List, [], ◌∷◌, ◌++◌, ℕ, leb, ℤ, ◌+ℤ◌, Option, Some, None, Result, Ok, Err}
+use Rattle.std.specs.Prelude.{Bool, cond, List, [], ◌∷◌, ℕ, leb, ℤ, ◌+ℤ◌, Option, Some, None, Result, Ok, Err}
 use Rattle.common.specs.Tests.{all_of}
 use Rattle.common.specs.Checks.{Check, check, judged}
 use Rattle.refusals.specs.declared.Refusal.{Refusal}
@@ -21,27 +21,22 @@ use Rattle.model.specs.declared.Treatment.{Treatment}
 use Rattle.model.specs.declared.Treatment.TheVariants.{Settle, Reject, Undo}
 use Rattle.model.specs.Checks.{settled_on, day_treated, state_fits, due_treated, time_treated}
 use Rattle.model.specs.Effects.{dated, keep_collection, with_postings, treated}
-use Rattle.checking.specs.Calls.{used_row, found_row, Done}
+use Rattle.checking.specs.Calls.{used_row, found_row, verdict_by, Done}
 use Rattle.treatments.specs.declared.verdicts.Verdict.{Verdict}
 use Rattle.treatments.specs.declared.verdicts.Verdict.TheVariants.{Mark, Post}
 use Rattle.calendar.specs.declared.CalendarDays.{CalendarDays}
 
 -- ---- refusals 6 to 17, of the collection k, which is there or not
 
-abbrev pub first_checks : ℕ → ℕ → Treatment → Bool → Collection → List (Check (Result Unit Refusal))
-first_checks latest date t there k =
+abbrev pub treat_checks : ℕ → ℕ → Treatment → Bool → Collection → List (Check (Result Unit Refusal))
+treat_checks latest date t there k =
     check (leb latest date) (Err BeforeLatest)
     ∷ check (day_treated t date) (Err NotBusinessDay)
     ∷ check there (Err DoesNotExist)
     ∷ check (state_fits t k.state) (Err WrongState)
     ∷ check (due_treated t k.due date) (Err BeforeDue)
+    ∷ check (time_treated t k.state date) (Err AfterLastDay)
     ∷ []
-
-abbrev pub last_checks : ℕ → Treatment → Collection → List (Check (Result Unit Refusal))
-last_checks date t k = check (time_treated t k.state date) (Err AfterLastDay) ∷ []
-
-abbrev pub treat_checks : ℕ → ℕ → Treatment → Bool → Collection → List (Check (Result Unit Refusal))
-treat_checks latest date t there k = first_checks latest date t there k ++ last_checks date t k
 
 abbrev pub treat_judged : ℕ → ℕ → Treatment → Bool → Collection → Result Unit Refusal
 treat_judged latest date t there k = judged (treat_checks latest date t there k) (Ok tt)
@@ -58,7 +53,7 @@ refund_after amount rate None = None
 
 abbrev pub undone_of : Way → ℕ → ℕ → ℕ → Option Postings
 undone_of ByReturn amount settled date = reversed_of amount
-undone_of (ByRefund rate code) amount settled date = refund_after amount rate (days_between settled date)
+undone_of (ByRefund rate authorisation) amount settled date = refund_after amount rate (days_between settled date)
 undone_of ByReversal amount settled date = reversed_of amount
 
 -- ---- the verdict
@@ -74,6 +69,12 @@ go_verdict Settle date k = post_verdict (treated Settle date k) (settlement_of k
 go_verdict Reject date k = Ok (Mark (treated Reject date k))
 go_verdict (Undo way) date k =
     post_verdict (treated (Undo way) date k) (undone_of way k.amount (settled_on k.state) date)
+
+-- what the tests of the collection in the row that was found say, or that collection
+abbrev pub judged_on : Option ℕ → Ledger → ℕ → Treatment → Result Collection Refusal
+judged_on found l date t =
+    let k = collection_at l.collections (found_row found) in
+    verdict_by (treat_judged l.latest date t (used_row l.collections l.collections_used found) k) k
 
 abbrev pub by_answer : Result Unit Refusal → Result Verdict Refusal → Result Verdict Refusal
 by_answer (Ok tt) v = v

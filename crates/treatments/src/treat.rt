@@ -3,15 +3,15 @@ ghost use Rattle.std.specs.Prelude.{true, ◌≡◌};
 ghost use Rattle.positions.specs.Positions.{in_limit, position_limit};
 ghost use Rattle.tables.specs.Ledger.{ledger_in, SameLoans};
 ghost use Rattle.checking.specs.Calls.{Done};
-ghost use Rattle.treatments.specs.Treatments.{held, postable, header_after, pay_answer, pay_effect, verdict_at, Treated};
+ghost use Rattle.treatments.specs.Treatments.{held, postable, header_after, pay_answer, pay_effect, Treated};
 
-use crate::verdicts::{Verdict, verdict_on};
-use checking::{found_row, is_used};
+use crate::verdicts::{Verdict, verdict_at};
+use checking::found_row;
 use model::Treatment;
 use positions::Postings;
 use positions::posting::{in_limit, is_entry, position_of, post};
 use refusals::Refusal;
-use tables::rows::{put_record, record_at};
+use tables::rows::put_record;
 use tables::{BookMut, Collection, Header};
 
 // Whether an amount can be posted to a number.
@@ -52,10 +52,10 @@ fn write(book: &mut BookMut, date: u64, row: usize, k: Collection, p: Postings)
     ensures paid { ledger_in book.new ≡ pay_effect row date k p (ledger_in book.old) }
 {
     put_record(book.collections, row, k);
-    let _ = post(book.creditor_positions, k.creditor, p.creditor);
-    let _ = post(book.debtor_positions, k.debtor, p.debtor);
-    let _ = post(book.bank_positions, k.dbank, p.dbank);
-    let _ = post(book.bank_positions, k.cbank, p.cbank);
+    post(book.creditor_positions, k.creditor, p.creditor).unwrap();
+    post(book.debtor_positions, k.debtor, p.debtor).unwrap();
+    post(book.bank_positions, k.dbank, p.dbank).unwrap();
+    post(book.bank_positions, k.cbank, p.cbank).unwrap();
     book.header = header_after(book.header, date, p.compensation);
 }
 
@@ -69,21 +69,6 @@ fn pay(book: &mut BookMut, date: u64, row: usize, k: Collection, p: Postings) ->
     }
     write(book, date, row, k, p);
     Ok(())
-}
-
-// The verdict on the collection in the row that was found.
-#[tactic(auto, unfolding(tables::specs::Rows::collection_at))]
-fn verdict_at(
-    book: &BookMut,
-    date: u64,
-    t: Treatment,
-    found: Option<usize>,
-) -> Result<Verdict, Refusal>
-    ensures { result ≡ verdict_at found (ledger_in book.now) date t }
-{
-    let there = is_used(found, book.collections, book.header.collections);
-    let k = record_at(book.collections, found_row(found));
-    verdict_on(book.header.latest, date, t, there, k)
 }
 
 // Events 6 to 10: the collection in the row that was found is treated.

@@ -2,18 +2,19 @@
 ghost use Rattle.std.specs.Prelude.{◌≡◌};
 ghost use Rattle.model.specs.Checks.{is_presented, is_settled, settled_on, day_treated, state_fits, due_treated, time_treated};
 ghost use Rattle.model.specs.Effects.{state_after, treated as treatedBy};
-ghost use Rattle.common.specs.Checks.{judged};
-ghost use Rattle.treatments.specs.Treatments.{first_checks, last_checks, treat_judged, post_verdict, go_verdict, verdict_on};
+ghost use Rattle.tables.specs.Ledger.{ledger_in};
+ghost use Rattle.treatments.specs.Treatments.{judged_on, post_verdict, go_verdict, verdict_at};
 
 use crate::undoing::undone;
 use calendar::target::is_business_day;
-use checking::{first_failing, none_fails};
+use checking::{found_row, is_used};
 use deadlines::undoings::is_in_time;
 use model::Treatment;
 use positions::Postings;
 use positions::amounts::settlement;
-use refusals::Refusal;
-use tables::{Collection, State, Undoing};
+use refusals::{Refusal, ensure};
+use tables::rows::record_at;
+use tables::{BookMut, Collection, State, Undoing};
 
 // Write the collection to its row, alone or with the amounts to post.
 #[derive(Clone, Copy)]
@@ -105,42 +106,25 @@ fn treated(t: Treatment, date: u64, k: Collection) -> Collection
     }
 }
 
-// Refusals 6 to 16, of the collection in the row that was found. `there` stands beside it here and below, no Option of it: `first_failing`
-// takes all tests at once, so each is made of a collection in any case; with an Option each would ask once more whether there is one.
-// Date, treatment and collection come apart from three places, and a struct of them would be made here alone.
-fn judge_first(
-    latest: u64,
+// Refusals 6 to 17, or the collection in the row that was found. The last day is worked out only where nothing refuses before.
+#[tactic(auto, unfolding(tables::specs::Rows::collection_at))]
+fn judge(
+    book: &BookMut,
     date: u64,
     t: Treatment,
-    there: bool,
-    k: Collection,
-) -> Result<(), Refusal>
-    ensures { result ≡ judged (first_checks latest date t there k) (Ok tt) }
+    found: Option<usize>,
+) -> Result<Collection, Refusal>
+    ensures { result ≡ judged_on found (ledger_in book.now) date t }
 {
-    let mut tests = none_fails();
-    tests.order = latest <= date;
-    tests.day = day_fits(t, date);
-    tests.there = there;
-    tests.state = state_fits(t, k.state);
-    tests.due = due_fits(t, k.due, date);
-    first_failing(tests)
-}
-
-// Refusal 17.
-fn judge_last(date: u64, t: Treatment, k: Collection) -> Result<(), Refusal>
-    ensures { result ≡ judged (last_checks date t k) (Ok tt) }
-{
-    let mut tests = none_fails();
-    tests.last = time_fits(t, k.state, date);
-    first_failing(tests)
-}
-
-// Refusals 6 to 17. The last day is worked out only where nothing refuses before.
-fn judge(latest: u64, date: u64, t: Treatment, there: bool, k: Collection) -> Result<(), Refusal>
-    ensures { result ≡ treat_judged latest date t there k }
-{
-    judge_first(latest, date, t, there, k)?;
-    judge_last(date, t, k)
+    ensure(book.header.latest <= date, Refusal::BeforeLatest)?;
+    ensure(day_fits(t, date), Refusal::NotBusinessDay)?;
+    let there = is_used(found, book.collections, book.header.collections);
+    ensure(there, Refusal::DoesNotExist)?;
+    let k: Collection = record_at(book.collections, found_row(found));
+    ensure(state_fits(t, k.state), Refusal::WrongState)?;
+    ensure(due_fits(t, k.due, date), Refusal::BeforeDue)?;
+    ensure(time_fits(t, k.state, date), Refusal::AfterLastDay)?;
+    Ok(k)
 }
 
 // The verdict to post; no row of a fit table has amounts outside their limits, at a rate within its own.
@@ -166,15 +150,14 @@ fn go_verdict(t: Treatment, date: u64, k: Collection) -> Result<Verdict, Refusal
 }
 
 // The verdict on the collection in the row that was found.
-pub fn verdict_on(
-    latest: u64,
+pub fn verdict_at(
+    book: &BookMut,
     date: u64,
     t: Treatment,
-    there: bool,
-    k: Collection,
+    found: Option<usize>,
 ) -> Result<Verdict, Refusal>
-    ensures { result ≡ verdict_on latest date t there k }
+    ensures { result ≡ verdict_at found (ledger_in book.now) date t }
 {
-    judge(latest, date, t, there, k)?;
+    let k = judge(book, date, t, found)?;
     go_verdict(t, date, k)
 }

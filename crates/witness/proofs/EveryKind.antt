@@ -3,13 +3,12 @@
 use Rattle.std.proofs.Common.{Ok}
 use Rattle.std.specs.Option.{is_some}
 use mathlib.Core.Path.{◌≡◌, refl, ap}
-use mathlib.Core.Bool.{Bool, true, false, not, ◌||◌}
+use mathlib.Core.Bool.{Bool, true, not, ◌||◌}
 use Prim.Native.Nat.{ℕ, ◌≤◌}
 use native.Mathlib.Omega.{arith}
-use lib.Dec.{T, leb}
+use lib.Dec.{leb}
 use borrow.Author.Tests.{leb-true}
-use Rattle.common.proofs.Every.{every, below}
-use Rattle.common.proofs.Tests.{never}
+use Rattle.std.proofs.lemmas.Bool.{agree_below, agree_below_at}
 use Rattle.events.specs.declared.Event.{Event}
 use Rattle.events.specs.Limits.{table, row_of, checked}
 use Rattle.events.proofs.Laws.Limits.{Limited, checked_facts, row_of_every, row_of_codes}
@@ -23,14 +22,9 @@ use Rattle.witness.proofs.Ruled.{ruled_answers, lent_sizes, opened_answers}
 listed? : ℕ → ℕ → Bool
 listed? kind code = not (is_some (row_of kind code)) || is_in sorts (sort kind code)
 
-all_listed : T (every (λ kind. every (listed? kind) 4) 11)
+all_listed : agree_below (λ kind. agree_below (listed? kind) (λ code. true) 4) (λ kind. true) 11 ≡ true
 unfolding listed? row_of table sorts
-all_listed = tt
-
-by_row : (row listed : Bool) → T (not row || listed) → row ≡ true → listed ≡ true
-by_row true true t h = refl
-by_row true false t h = absurd t
-by_row false listed t h = absurd (never h refl)
+all_listed = refl
 
 -- no row has a code above 3
 low_code : (e : Event) (m : Limited e) → e.code ≤ 3
@@ -45,10 +39,8 @@ complete e w =
     let m = checked_facts e w in
     let code = low_code e m in
     let kind = m.kind.to in
-    let codes = below (λ k. every (listed? k) 4) 11 all_listed e.kind (omega arith) in
-    by_row (is_some (row_of e.kind e.code)) (is_in sorts (sort_of e))
-    (below (listed? e.kind) 4 codes e.code (omega arith))
-    (ap is_some m.found)
+    let codes = agree_below_at (λ kind. agree_below (listed? kind) (λ code. true) 4) (λ kind. true) 11 e.kind all_listed (omega arith) in
+    rw (ap is_some m.found) at (agree_below_at (listed? e.kind) (λ code. true) 4 e.code codes (omega arith))
 
 -- ---- the statement
 

@@ -111,19 +111,12 @@ computed_lines :
 unfolding figures_output position_line signed_field signed_padded
 computed_lines = refl
 
-four : {a a' b b' c c' d d' : List ℕ} → a ≡ a' → b ≡ b' → c ≡ c' → d ≡ d' → a ++ b ++ c ++ d ≡ a' ++ b' ++ c' ++ d'
-four p q r s = rw (p, q, r, s)
-
 listed : positions_output after_example ≡ text_of (drop (length numbers) output)
 unfolding positions_output
 listed =
     let within : (count n : ℕ) → 1 ≤ n → n ≤ count → leb 1 n && leb n count ≡ true = λ count n a b. and_true (le-leb 1 n a) (le-leb n count b) in
-    four
-    (lines_of 1 creditor_count (within creditor_count))
-    (lines_of 2 debtor_count (within debtor_count))
-    (lines_of 3 bank_count (within bank_count))
-    (ap (position_line 4 0) (figure_is 4 0 refl))
-    ∙ computed_lines
+    rw (lines_of 1 creditor_count (within creditor_count), lines_of 2 debtor_count (within debtor_count), lines_of 3 bank_count (within bank_count), figure_is 4 0 refl)
+    computed_lines
 
 -- ---- the text, on any ledger
 

@@ -1,5 +1,5 @@
--- Laws of the call for an event: acting on it by the rows of what it names is the model's step. To cite: `found_for`, `found_in_view`, `acted_taken`,
--- `taken_unfit`, `taken_refused`. Assumes nothing.
+-- Laws of the call for an event: acting on it by the rows of what it names is the model's step. To cite: `found_for`, `acted_taken`, `acted_from`,
+-- `taken_from`, `taken_first`, `taken_unfit`, `taken_refused`. Assumes nothing.
 use Rattle.std.proofs.Common.{Err, None, Ok, Option, ℕ, Result}
 use mathlib.Core.Path.{◌≡◌, refl, sym, ◌∙◌, ap, subst}
 use mathlib.Core.Bool.{true, false, cond}
@@ -13,6 +13,7 @@ use Rattle.events.proofs.Laws.Limits.{checked_facts, creditor_facts, refund_fact
 use Rattle.positions.specs.Compensation.{rate_limit}
 use Rattle.tables.specs.Ledger.{Ledger}
 use Rattle.tables.specs.Lookup.{lookup, lookup_since, MayStart}
+use Rattle.tables.proofs.Laws.Lookup.{lookup_since_first}
 use Rattle.fitness.specs.Fitness.{fit}
 use Rattle.fitness.proofs.Laws.Fitness.{fit_facts}
 use Rattle.model.specs.declared.Action.{Action}
@@ -22,7 +23,7 @@ use Rattle.model.specs.declared.Treatment.{Treatment}
 use Rattle.model.specs.declared.Treatment.TheVariants.{Settle, Reject, Undo}
 use Rattle.model.specs.declared.Way.{Way}
 use Rattle.model.specs.declared.Way.TheVariants.{ByReturn, ByRefund, ByReversal}
-use Rattle.model.specs.Actions.{new_mandate, amendment, presentation, action_of}
+use Rattle.model.specs.Actions.{new_mandate, amendment, presentation, authorisation, action_of}
 use Rattle.model.specs.Checks.{ruled}
 use Rattle.model.specs.Effects.{effect}
 use Rattle.model.specs.Step.{answer_number, answer, after}
@@ -31,7 +32,7 @@ use Rattle.model.proofs.Laws.Answers.{event_numbers}
 use Rattle.checking.specs.Calls.{Done}
 use Rattle.records.proofs.Laws.Records.{creditor_ruled, mandate_ruled, change_ruled, collect_ruled}
 use Rattle.treatments.proofs.Laws.Ready.{rate_of, treat_ruled}
-use Rattle.book.specs.Acting.{names_mandate, names_collection, ActedOn}
+use Rattle.book.specs.Acting.{names_mandate, names_collection, mandate_found, collection_found, ActedOn, ActedFrom}
 use Rattle.book.specs.Events.{Taken}
 
 -- ---- the rows of what an event names
@@ -42,26 +43,15 @@ pub record FoundFor (e : Event) (l : Ledger) (mandate collection : Option ℕ) :
 
 pub found_for :
     (e : Event) (l : Ledger) (mandate collection : Option ℕ) (mandateSince collectionSince : ℕ)
-    → MayStart l.mandates l.mandates_used e.mandate mandateSince
-    → MayStart l.collections l.collections_used e.a collectionSince
+    → (names_mandate e.kind ≡ true → MayStart l.mandates l.mandates_used e.mandate mandateSince)
+    → (names_collection e.kind ≡ true → MayStart l.collections l.collections_used e.a collectionSince)
     → mandate ≡ cond (names_mandate e.kind) (lookup_since l.mandates l.mandates_used e.mandate mandateSince) None
     → collection ≡ cond (names_collection e.kind) (lookup_since l.collections l.collections_used e.a collectionSince) None
     → FoundFor e l mandate collection
 found_for e l mandate collection mandateSince collectionSince s t m c = record {
-  mandate_is = λ n. m ∙ rw n s;
-  collection_is = λ n. c ∙ rw n t;
+  mandate_is = λ n. m ∙ rw n (s n);
+  collection_is = λ n. c ∙ rw n (t n);
 }
-
--- by the cells that a view of the book lends
-pub found_in_view :
-    (e : Event) (l l' : Ledger) (mandate collection : Option ℕ) (i j : ℕ)
-    → l ≡ l'
-    → MayStart l'.mandates l'.mandates_used e.mandate i
-    → MayStart l'.collections l'.collections_used e.a j
-    → mandate ≡ cond (names_mandate e.kind) (lookup_since l.mandates l.mandates_used e.mandate i) None
-    → collection ≡ cond (names_collection e.kind) (lookup_since l.collections l.collections_used e.a j) None
-    → FoundFor e l' mandate collection
-found_in_view e l l' mandate collection i j same s t m c = found_for e l' mandate collection i j s t (rw same at m) (rw same at c)
 
 -- ---- acting on the event is the model's answer and effect
 
@@ -103,14 +93,14 @@ module _ (l : Ledger) (e : Event) (mandate collection : Option ℕ) (r : Result 
               (
                 λ i. asks _ (action_collect e i) (collect_ruled l e.date r l' mandate collection (presentation e) (names_mandate_lem 5 i refl) (names_collection_lem 5 i refl)),
                 (
-                  λ i. treats 6 Settle i refl (λ way q. let z : ◌≡◌ {A = ℕ} 0 1 = cc in absurd (omega arith)) (action_settle e i),
+                  λ i. treats 6 Settle i refl (λ way q. absurd cc) (action_settle e i),
                   (
-                    λ i. treats 7 Reject i refl (λ way q. let z : ◌≡◌ {A = ℕ} 0 1 = cc in absurd (omega arith)) (action_reject e i),
+                    λ i. treats 7 Reject i refl (λ way q. absurd cc) (action_reject e i),
                     (
                       λ i. treats 8 (Undo ByReturn) i refl (free ByReturn refl) (action_return e i),
                       (
-                        λ i. treats 9 (Undo (ByRefund e.b e.code)) i refl
-                            (λ way q. let p : ByRefund e.b e.code ≡ way = cc in subst (λ (x : Way). rate_of x ≤ rate_limit) p (refund_facts e m i).rate.to)
+                        λ i. treats 9 (Undo (ByRefund e.b (authorisation e.code))) i refl
+                            (λ way q. let p : ByRefund e.b (authorisation e.code) ≡ way = cc in subst (λ (x : Way). rate_of x ≤ rate_limit) p (refund_facts e m i).rate.to)
                             (action_refund e i),
                         (
                           λ i. treats 10 (Undo ByReversal) i refl (free ByReversal refl) (action_reversal e i),
@@ -147,3 +137,25 @@ module _ (l : Ledger) (e : Event) where
   acted_taken mandate collection r l' f w n d =
       let s = acted_ruled l e mandate collection r l' f w n d in
       made r l' (rw (f, w) s.answer_is) (rw (f, w) s.after_is)
+
+  -- by the rows that are found from a row on in each table
+  pub acted_from :
+      (mandate collection : Option ℕ) (i j : ℕ) (r : Result Unit Refusal) (l' : Ledger) → mandate ≡ mandate_found e l i → collection ≡ collection_found e l j
+      → ActedOn mandate collection l e.date (action_of e) r l' → ActedFrom i j l e r l'
+  acted_from mandate collection i j r l' m c d =
+      subst (λ (x : Option ℕ). ActedOn x (collection_found e l j) l e.date (action_of e) r l') m
+      (subst (λ (x : Option ℕ). ActedOn mandate x l e.date (action_of e) r l') c d)
+
+  pub taken_from :
+      (i j : ℕ) (r : Result Unit Refusal) (l' : Ledger) → fit l ≡ true → checked e ≡ (Ok tt)
+      → (names_mandate e.kind ≡ true → MayStart l.mandates l.mandates_used e.mandate i)
+      → (names_collection e.kind ≡ true → MayStart l.collections l.collections_used e.a j)
+      → ActedFrom i j l e r l' → Taken l e r l'
+  taken_from i j r l' f w s t d = acted_taken _ _ r l' f w (found_for e l _ _ i j s t refl refl) d
+
+  -- and from the first row
+  pub taken_first : (r : Result Unit Refusal) (l' : Ledger) → fit l ≡ true → checked e ≡ (Ok tt) → ActedFrom 0 0 l e r l' → Taken l e r l'
+  taken_first r l' f w d =
+      taken_from 0 0 r l' f w
+      (λ n. lookup_since_first l.mandates l.mandates_used e.mandate)
+      (λ n. lookup_since_first l.collections l.collections_used e.a) d

@@ -88,12 +88,8 @@ pub record DayOfDate (x k r : ℕ) : Type 0 where
   pub inside : k < calendar_days
   pub is : r ≡ date_at k
 
-from_case : (b : Bool) (k r : ℕ) → cond b (date_of k) None ≡ Some r → (b ≡ true) × (date_of k ≡ Some r)
-from_case true k r e = (refl, e)
-from_case false k r e = (cc, cc)
-
 pub day_of_date : (x k r : ℕ) → cond (is_date x) (date_of k) None ≡ Some r → DayOfDate x k r
 day_of_date x k r e =
-    let p = from_case (is_date x) k r e in
+    let p : (is_date x ≡ true) × (date_of k ≡ Some r) = grind arith in
     let q = date_of_date k r p.1 in
     record { is_date_lem = p.0; inside = q.0; is = q.1 }

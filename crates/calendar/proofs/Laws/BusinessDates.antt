@@ -6,7 +6,6 @@ use mathlib.Core.Path.{◌≡◌, refl, sym, ap, ◌∙◌}
 use mathlib.Core.Bool.{true, false}
 use Prim.Native.Nat.{ℕ, ◌+◌, ◌≤◌, ◌<◌}
 use native.Mathlib.Omega.{arith}
-use Rattle.common.proofs.Tests.{never}
 use Rattle.calendar.specs.Gregorian.{leap, leap_day, month_length, is_date, in_range, last_date}
 use Rattle.calendar.specs.DayNumber.{calendar_days, days_before, year_start, day_number, day_of, date_at, date_of}
 use Rattle.calendar.specs.Easter.{computus, easter_sunday}
@@ -62,7 +61,7 @@ module _ (x : ℕ) (h : is_date x ≡ true) where
       let f = first_open_first _ (day_number_lt x h) in
       let n = day_number_mono_le x y h d l in
       let o = open_date y d ∙ b in
-      let p : ¬ (day_number y < first_open (day_number x)) = λ s. never o (f.shut (day_number y) n s) in
+      let p : ¬ (day_number y < first_open (day_number x)) = λ s. cc (f.shut (day_number y) n s) in
       day_number_reflects_le (kept_date x) y kept_date_date d (rw kept_date_number (omega arith))
 
 -- the last date of events and rows is a business day
@@ -70,7 +69,7 @@ last_date_business : business_day last_date ≡ true
 unfolding business_day closed closed_by is_date month_length year_start days_before leap_day leap day_number easter_sunday computus
 last_date_business = refl
 
-last_date_date : is_date last_date ≡ true
+pub last_date_date : is_date last_date ≡ true
 unfolding is_date month_length leap_day leap
 last_date_date = refl
 

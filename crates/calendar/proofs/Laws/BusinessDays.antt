@@ -7,10 +7,11 @@ use Rattle.std.specs.Option.{option_map}
 use Rattle.std.specs.List.{find}
 use Rattle.std.specs.Iterator.{AlwaysYields}
 use Rattle.std.proofs.iter.runs.Sources.{nat_range_steps_back}
+use Rattle.std.proofs.lemmas.Bool.{cond_both}
 use Rattle.std.proofs.lemmas.Iterator.{YieldsList}
 use Rattle.std.specs.declared.ops.Range.{Range}
 use mathlib.Core.Path.{◌≡◌, refl, sym, ap, ◌∙◌}
-use mathlib.Core.Bool.{Bool, true, false, cond, not}
+use mathlib.Core.Bool.{Bool, true, false, not}
 use mathlib.Core.Logic.{⊎_elim}
 use Prim.Native.Nat.{ℕ, zero, suc, ◌+◌, ◌-◌, ◌*◌, ◌≤◌, ◌<◌}
 use native.Mathlib.Nat.{eq-or-lt_of_le}
@@ -19,7 +20,7 @@ use native.Mathlib.Decide.{le_ind, dec_le}
 use native.Mathlib.Omega.{arith}
 use lib.Dec.{ltb}
 use borrow.Author.Tests.{lt-ltb, le-ltb}
-use Rattle.common.proofs.Tests.{never}
+use Rattle.common.proofs.Tests.{either}
 use Rattle.calendar.specs.DayNumber.{calendar_days}
 use Rattle.calendar.specs.Target.{is_open, First, seek, first_open, open_after, Last, last_open_before}
 use Rattle.calendar.specs.Promises.{LastFound}
@@ -28,14 +29,12 @@ use Rattle.calendar.proofs.Laws.Holidays.{first_near}
 
 -- ---- first_open
 
-seek_case : (b : Bool) (f n r : ℕ) → is_open n ≡ b → First n r → r ≤ n + suc f → (First (n + 1) r → r ≤ n + 1 + f → seek f (n + 1) ≡ r) → cond b n (seek f (n + 1)) ≡ r
-seek_case true f n r e p h ih = first_unique n n r (first_here n e) p
-seek_case false f n r e p h ih = ih (first_rest n r e p) (omega arith)
-
 seek_is : (f n r : ℕ) → First n r → r ≤ n + f → seek f n ≡ r
 unfolding seek
 seek_is zero n r p h = omega (arith, p.from)
-seek_is (suc f) n r p h = seek_case (is_open n) f n r refl p h (seek_is f (n + 1) r)
+seek_is (suc f) n r p h =
+    cond_both (is_open n) n (seek f (n + 1)) (λ s. s ≡ r) (λ e. first_unique n n r (first_here n e) p)
+    (λ e. seek_is f (n + 1) r (first_rest n r e p) (omega arith))
 
 -- what is first is what `first_open` finds
 pub first_open_is : (n r : ℕ) → First n r → first_open n ≡ r
@@ -77,14 +76,10 @@ first_open_open n e = first_open_is n n (first_here n e)
 pub first_open_closed : (n : ℕ) → n < calendar_days → is_open n ≡ false → first_open n ≡ first_open (n + 1)
 first_open_closed n h e = first_open_is n (first_open (n + 1)) (first_later n _ e (first_open_first (n + 1) (closed_not_last n h e)))
 
-seek_from_case : (b : Bool) (f n : ℕ) → n + 1 ≤ seek f (n + 1) → n ≤ cond b n (seek f (n + 1))
-seek_from_case true f n h = omega arith
-seek_from_case false f n h = omega arith
-
 seek_from : (f n : ℕ) → n ≤ seek f n
 unfolding seek
 seek_from zero n = omega arith
-seek_from (suc f) n = seek_from_case (is_open n) f n (seek_from f (n + 1))
+seek_from (suc f) n = grind (arith, seek_from f (n + 1))
 
 -- beyond the calendar too
 pub first_open_from : (n : ℕ) → n ≤ first_open n
@@ -137,8 +132,8 @@ open_after_first n d h =
 
 pub last_unique : (n r s : ℕ) → Last n r → Last n s → r ≡ s
 last_unique n r s a b =
-    let p : ¬ (r < s) = λ l. never b.is_open_lem (a.shut s l b.before) in
-    let q : ¬ (s < r) = λ l. never a.is_open_lem (b.shut r l a.before) in
+    let p : ¬ (r < s) = λ l. cc (a.shut s l b.before) in
+    let q : ¬ (s < r) = λ l. cc (b.shut r l a.before) in
     omega arith
 
 last_here : (n : ℕ) → is_open n ≡ true → Last (suc n) n
@@ -154,18 +149,16 @@ last_earlier n r e l =
 
 last_rest : (n r : ℕ) → is_open n ≡ false → Last (suc n) r → Last n r
 last_rest n r e l =
-    let q : ¬ (r ≡ n) = λ i. never l.is_open_lem (rw (← i) at e) in
+    let q : ¬ (r ≡ n) = λ i. cc in
     record { before = omega (arith, l.before); is_open_lem = l.is_open_lem; shut = λ j a b. l.shut j a (omega arith) }
-
-is_case : (b : Bool) (n r : ℕ) → is_open n ≡ b → Last (suc n) r → (Last n r → last_open_before n ≡ Some r) → cond b (Some n) (last_open_before n) ≡ Some r
-is_case true n r e l ih = ap Some (last_unique (suc n) n r (last_here n e) l)
-is_case false n r e l ih = ih (last_rest n r e l)
 
 -- what is last is what `last_open_before` finds
 pub last_open_is : (n r : ℕ) → Last n r → last_open_before n ≡ Some r
 unfolding last_open_before
 last_open_is zero r l = absurd (omega (arith, l.before))
-last_open_is (suc n) r l = is_case (is_open n) n r refl l (last_open_is n r)
+last_open_is (suc n) r l =
+    cond_both (is_open n) (Some n) (last_open_before n) (λ s. s ≡ Some r) (λ e. ap Some (last_unique (suc n) n r (last_here n e) l))
+    (λ e. last_open_is n r (last_rest n r e l))
 
 -- the days before the day n, the last one first: an iterator over them from the back gives them so
 pub days_back : ℕ → List ℕ
@@ -195,16 +188,14 @@ record LastFrom (n r : ℕ) : Type 0 where
   last : Last n day
   from : r ≤ day
 
-from_case : (b : Bool) (n r : ℕ) → is_open n ≡ b → r ≤ n → is_open r ≡ true → (r < n → LastFrom n r) → LastFrom (suc n) r
-from_case true n r e h o ih = record { day = n; last = last_here n e; from = h }
-from_case false n r e h o ih =
-    let q : ¬ (r ≡ n) = λ i. never o (rw (← i) at e) in
-    let i = ih (omega arith) in
-    record { day = i.day; last = last_earlier n i.day e i.last; from = i.from }
-
 last_from_lem : (n r : ℕ) → r < n → is_open r ≡ true → LastFrom n r
 last_from_lem zero r h o = absurd (omega arith)
-last_from_lem (suc n) r h o = from_case (is_open n) n r refl (omega arith) o (λ l. last_from_lem n r l o)
+last_from_lem (suc n) r h o =
+    either (is_open n) (λ e. record { day = n; last = last_here n e; from = omega arith })
+    (λ e.
+    let q : ¬ (r ≡ n) = λ i. cc in
+    let i = last_from_lem n r (omega arith) o in
+    record { day = i.day; last = last_earlier n i.day e i.last; from = i.from })
 
 -- among the five days before a day there is one
 pub last_open_exists : (n : ℕ) → 5 ≤ n → n < calendar_days → LastFound n
@@ -225,14 +216,14 @@ first_before d n r h l =
     let f = first_open_first d h in
     elim (dec_le d r) [
       | yes a ↦
-          let p : ¬ (r < first_open d) = λ s. never l.is_open_lem (f.shut r a s) in
+          let p : ¬ (r < first_open d) = λ s. cc (f.shut r a s) in
           ap not (le-ltb r d a) ∙ sym (lt-ltb (first_open d) n (omega (arith, l.before)))
       | no a ↦
-          let p : ¬ (first_open d < n) = λ s. never f.is_open_lem (l.shut (first_open d) (omega (arith, f.from)) s) in
+          let p : ¬ (first_open d < n) = λ s. cc (l.shut (first_open d) (omega (arith, f.from)) s) in
           ap not (lt-ltb r d (omega arith)) ∙ sym (le-ltb (first_open d) n (omega arith))
     ]
 
 pub last_mono : (n m r s : ℕ) → n ≤ m → Last n r → Last m s → r ≤ s
 last_mono n m r s h a b =
-    let p : ¬ (s < r) = λ l. never a.is_open_lem (b.shut r l (omega (arith, a.before))) in
+    let p : ¬ (s < r) = λ l. cc (b.shut r l (omega (arith, a.before))) in
     omega arith

@@ -2,7 +2,7 @@
 -- To cite: `table_easter` (the table is the computus), `EasterFacts` with `easter_facts`. Assumes nothing.
 use Rattle.std.proofs.Common.{None, Some}
 use Rattle.std.proofs.lemmas.Option.{cond_some}
-use mathlib.Core.Path.{◌≡◌, sym, ap}
+use mathlib.Core.Path.{◌≡◌, refl, sym, ap}
 use mathlib.Core.List.{List, [], ◌∷◌}
 use mathlib.Core.Bool.{Bool, true, cond}
 use Prim.Native.Nat.{ℕ, ◌+◌, ◌-◌, ◌*◌, ◌%◌, ◌≤◌, ◌<◌}
@@ -10,8 +10,7 @@ use native.Mathlib.Omega.{arith}
 use lib.Dec.{ltb, leb, eqb}
 use lib.ListN.{get_or}
 use borrow.Author.Tests.{leb-true, eqb-true}
-use denote.Floats.{is_true}
-use Rattle.common.proofs.Every.{entry, below}
+use Rattle.std.proofs.lemmas.Bool.{agree_below_at}
 use Rattle.common.proofs.Tests.{and_halves, all_of_at}
 use Rattle.common.specs.Tests.{all_of}
 use Rattle.calendar.specs.Gregorian.{year, month_day, leap, leap_day, month_length, is_date, first_year, last_year}
@@ -52,7 +51,7 @@ right? k md = eqb md (month_day (easter_sunday (first_year + k)))
 -- one test over all 200 entries, carried to every year
 pub table_easter : (k : ℕ) → k < 200 → get_or table k 0 ≡ month_day (easter_sunday (first_year + k))
 unfolding right? easter_sunday computus
-table_easter k h = eqb-true _ _ (is_true _ (entry right? table tt k h))
+table_easter k h = eqb-true _ _ (agree_below_at (λ k. right? k (get_or table k 0)) (λ k. true) 200 k refl h)
 
 pub table_of_year : (y : ℕ) → first_year ≤ y → y ≤ last_year → get_or table (y - first_year) 0 ≡ month_day (easter_sunday y)
 table_of_year y a b =
@@ -96,7 +95,7 @@ facts_at : (k : ℕ) → k < 200 → EasterFacts (first_year + k)
 unfolding facts? easter_sunday computus day_number year_start days_before is_date month_length leap_day leap
 facts_at k h =
     let e : first_year + k - first_year ≡ k = omega arith in
-    let t = is_true _ (below facts? 200 tt k h) in
+    let t = agree_below_at facts? (λ k. true) 200 k refl h in
     record {
       is_date_lem = all_of_at (facts k) 0 t;
       of_year = eqb-true _ _ (all_of_at (facts k) 1 t);

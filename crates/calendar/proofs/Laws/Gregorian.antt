@@ -1,24 +1,20 @@
 -- Laws of specs/Gregorian. To cite: `leap_day_in`, `Valid` with `date_valid` and `valid_date` (the tests of a date, by
 -- name), `InRange` with `range_facts`. Assumes nothing.
-use mathlib.Core.Path.{◌≡◌}
-use mathlib.Core.Bool.{Bool, true, false, cond, not, ◌&&◌, ◌||◌}
+use mathlib.Core.Path.{◌≡◌, refl}
+use mathlib.Core.Bool.{true, cond, not, ◌&&◌}
 use Prim.Native.Nat.{ℕ, ◌+◌, ◌-◌, ◌%◌, ◌≤◌, ◌<◌}
 use native.Mathlib.Omega.{arith}
-use lib.Dec.{leb, eqb, eqb→eq, lit≤}
-use borrow.Author.Tests.{leb-true, le-leb}
-use Rattle.common.proofs.Every.{below}
+use lib.Dec.{leb, eqb}
+use borrow.Author.Tests.{leb-true, le-leb, eqb-true}
+use Rattle.std.proofs.lemmas.Bool.{agree_below_at}
 use Rattle.common.proofs.Tests.{and_halves}
 use Rattle.calendar.specs.Gregorian.{year, month, day_of_month, date_of_parts, leap, leap_day, month_length, is_date, in_range, first_year, last_year, first_date, last_date}
 
 -- ---- leap_day, month_length
 
-bit_le : (b : Bool) → cond b 1 0 ≤ 1
-bit_le true = lit≤ tt
-bit_le false = lit≤ tt
-
 pub leap_day_le : (y : ℕ) → leap_day y ≤ 1
 unfolding leap_day
-leap_day_le y = bit_le (leap y)
+leap_day_le y = grind arith
 
 -- of the calendar's years that 4 divides only 2100 is no leap year
 by_four : ℕ → ℕ
@@ -27,8 +23,7 @@ by_four y = cond (eqb (y % 4) 0 && not (eqb y 2100)) 1 0
 by_four_is : (k : ℕ) → k < 200 → by_four (first_year + k) ≡ leap_day (first_year + k)
 unfolding by_four leap_day leap
 by_four_is k h =
-    eqb→eq (by_four (first_year + k)) (leap_day (first_year + k))
-    (below (λ j. eqb (by_four (first_year + j)) (leap_day (first_year + j))) 200 tt k h)
+    eqb-true _ _ (agree_below_at (λ j. eqb (by_four (first_year + j)) (leap_day (first_year + j))) (λ j. true) 200 k refl h)
 
 pub leap_day_in : (y : ℕ) → first_year ≤ y → y ≤ last_year → cond (eqb (y % 4) 0 && not (eqb y 2100)) 1 0 ≡ leap_day y
 unfolding by_four
@@ -36,23 +31,13 @@ leap_day_in y a b =
     let e : first_year + (y - first_year) ≡ y = omega arith in
     rw e at (by_four_is (y - first_year) (omega arith))
 
-length_le : (a b : Bool) (l : ℕ) → l ≤ 1 → cond a (28 + l) (cond b 30 31) ≤ 31
-length_le true b l h = omega arith
-length_le false true l h = lit≤ tt
-length_le false false l h = lit≤ tt
-
-length_ge : (a b : Bool) (l : ℕ) → 28 ≤ cond a (28 + l) (cond b 30 31)
-length_ge true b l = omega arith
-length_ge false true l = lit≤ tt
-length_ge false false l = lit≤ tt
-
 pub month_length_le : (l m : ℕ) → l ≤ 1 → month_length l m ≤ 31
 unfolding month_length
-month_length_le l m h = length_le (eqb m 2) (eqb m 4 || eqb m 6 || eqb m 9 || eqb m 11) l h
+month_length_le l m h = grind arith
 
 pub month_length_ge : (l m : ℕ) → 28 ≤ month_length l m
 unfolding month_length
-month_length_ge l m = length_ge (eqb m 2) (eqb m 4 || eqb m 6 || eqb m 9 || eqb m 11) l
+month_length_ge l m = grind arith
 
 -- ---- the parts of YYYYMMDD
 

@@ -1,6 +1,6 @@
 -- Of any five days in a row one is a business day. The closing days of all years stand in one rising sequence, three of
 -- which are never within five days; the weekend is two days of seven. To cite: `on_day`, `first_near`. Assumes nothing.
-use mathlib.Core.Path.{◌≡◌, ap}
+use mathlib.Core.Path.{◌≡◌, refl, ap}
 use mathlib.Core.Bool.{Bool, true, false, ◌&&◌}
 use mathlib.Core.Logic.{◌⊎◌, inl, inr, ⊎_elim}
 use mathlib.Core.List.{List, [], ◌∷◌}
@@ -10,10 +10,9 @@ use native.Mathlib.Numerals.{add-one}
 use native.Mathlib.Decide.{le_ind, dec_le}
 use lib.Dec.{leb, ltb, eqb}
 use lib.ListN.{get_or}
-use borrow.Author.Tests.{leb-true, ltb-true, eqb-true}
-use denote.Floats.{is_true}
-use Rattle.common.proofs.Every.{below}
-use Rattle.common.proofs.Tests.{and_halves, not_false, any_of_cases}
+use borrow.Author.Tests.{leb-true, ltb-true, eqb-true, not-false}
+use Rattle.std.proofs.lemmas.Bool.{agree_below_at}
+use Rattle.common.proofs.Tests.{and_halves, any_of_cases}
 use Rattle.calendar.specs.Gregorian.{leap, leap_day, month_day, date_of_parts, first_year}
 use Rattle.calendar.specs.DayNumber.{calendar_days, days_before, year_start, day_number, year_at, date_at}
 use Rattle.calendar.specs.Easter.{computus, easter_sunday}
@@ -50,7 +49,7 @@ apart? i = ltb (closing i) (closing (i + 1)) && leb (closing i + 5) (closing (i 
 apart : (i : ℕ) → i < 1200 → (closing i < closing (i + 1)) × (closing i + 5 ≤ closing (i + 1 + 1))
 unfolding apart? closing closings easter_day year_start days_before leap_day leap day_number easter_sunday computus
 apart i h =
-    let p = and_halves (ltb (closing i) (closing (i + 1))) (is_true _ (below apart? 1200 tt i h)) in
+    let p = and_halves (ltb (closing i) (closing (i + 1))) (agree_below_at apart? (λ i. true) 1200 i refl h) in
     (ltb-true _ _ p.0, leb-true _ _ p.1)
 
 closing_mono : (i j : ℕ) → i ≤ j → j ≤ 1200 → closing i ≤ closing j
@@ -169,7 +168,7 @@ module _ (n : ℕ) (h : n < calendar_days) where
 
   off : is_open n ≡ false → Off n
   unfolding easter_day
-  off e = off_by_tests (not_false (rw (open_tests n h) at e))
+  off e = off_by_tests (not-false _ (rw (open_tests n h) at e))
 
 -- ---- the first business day is near
 

@@ -10,7 +10,8 @@ use native.Mathlib.Omega.{arith}
 use lib.Dec.{eqb, lit≤}
 use lib.ListN.{get_or}
 use borrow.Author.Tests.{eqb-true, eq-eqb, ne_eqb}
-use Rattle.common.proofs.Tests.{never, either, true_unless, false_unless, any_of_at, any_of_cases}
+use Rattle.std.proofs.lemmas.Bool.Decides.{nat_tests}
+use Rattle.common.proofs.Tests.{either, true_unless, false_unless, any_of_at, any_of_cases}
 use Rattle.common.specs.Tests.{any_of}
 use Rattle.calendar.specs.Gregorian.{month_day, leap_day, month_length, first_year}
 use Rattle.calendar.specs.DayNumber.{calendar_days, days_before, year_start, day_number, year_at, date_at}
@@ -54,9 +55,7 @@ tests n =
     ∷ []
 
 same_test : (a b c d : ℕ) → (a ≡ b → c ≡ d) → (c ≡ d → a ≡ b) → eqb a b ≡ eqb c d
-same_test a b c d f g =
-    either (eqb a b) (λ t. rw t (sym (eq-eqb c d (f (eqb-true a b t)))))
-    (λ t. rw t (sym (ne_eqb c d (λ i. never (eq-eqb a b (g i)) t))))
+same_test a b c d f g = grind (arith, nat_tests)
 
 module _ (n : ℕ) (h : n < calendar_days) where
   -- Easter Sunday is no earlier than 22 March and no later than 25 April
@@ -111,7 +110,7 @@ module _ (n : ℕ) (h : n < calendar_days) where
   -- ---- closed days
 
   shut_by : (i : ℕ) → get_or (tests n) i false ≡ true → is_open n ≡ false
-  shut_by i e = open_in ∙ ap not (true_unless (any_of (tests n)) (λ f. never e (any_of_at (tests n) i f)))
+  shut_by i e = open_in ∙ ap not (true_unless (any_of (tests n)) (λ f. cc (any_of_at (tests n) i f)))
 
   pub weekend_shut : 5 ≤ weekday n → is_open n ≡ false
   weekend_shut w =
@@ -136,8 +135,8 @@ module _ (n : ℕ) (h : n < calendar_days) where
           (
             λ p. omega (arith, eqb-true (weekday n) 6 p),
             (
-              λ p. never p (no 0),
-              (λ p. never p friday, (λ p. never p monday, (λ p. never p (no 1), (λ p. never p (no 2), (λ p. never p (no 3), tt))))),
+              λ p. cc (no 0),
+              (λ p. cc, (λ p. cc, (λ p. cc (no 1), (λ p. cc (no 2), (λ p. cc (no 3), tt))))),
             ),
           ),
         )))

@@ -17,7 +17,7 @@ use Rattle.calendar.proofs.Laws.DayNumber.{day_number_lt, date_at_date, day_numb
 use Rattle.calendar.proofs.Laws.Answers.{DateAfter, day_of_date, date_of_is}
 use Rattle.calendar.proofs.Laws.Target.{open_at}
 use Rattle.calendar.proofs.Laws.BusinessDays.{first_open_near, open_after_from, open_after_near, open_after_mono, open_after_first}
-use Rattle.calendar.proofs.Laws.BusinessDates.{kept_date, first_business_day_is, kept_date_number, kept_date_date, kept_date_from}
+use Rattle.calendar.proofs.Laws.BusinessDates.{kept_date, last_date_date, first_business_day_is, kept_date_number, kept_date_date, kept_date_from}
 use Rattle.calendar.proofs.Laws.Periods.{month_count_is, period_end_is}
 use Rattle.calendar.proofs.Laws.MonthCounts.{months_after_lem, months_after_mono}
 
@@ -35,16 +35,12 @@ first_is_date : is_date first_date ≡ true
 unfolding is_date month_length leap_day leap
 first_is_date = refl
 
-last_is_date : is_date last_date ≡ true
-unfolding is_date month_length leap_day leap
-last_is_date = refl
-
 -- ten years and more are left on either side
 pub range_days : (x : ℕ) → in_range x ≡ true → (3653 ≤ day_number x) × (day_number x ≤ 69396)
 range_days x r =
     let f = range_facts x r in (
       omega (arith, first_day, day_number_mono_le first_date x first_is_date f.is_date_lem f.from),
-      omega (arith, last_day_lem, day_number_mono_le x last_date f.is_date_lem last_is_date f.to),
+      omega (arith, last_day_lem, day_number_mono_le x last_date f.is_date_lem last_date_date f.to),
     )
 
 -- ---- from a date to a later day
@@ -144,7 +140,7 @@ record Then (a : Option ℕ) (f : ℕ → Option ℕ) (r : ℕ) : Type 0 where
 
 then_date : (a : Option ℕ) (f : ℕ → Option ℕ) (r : ℕ) → and_then a f ≡ Some r → Then a f r
 then_date (Some x) f r e = record { date = x; first = refl; second = e }
-then_date None f r e = let z : ◌≡◌ {A = ℕ} 0 1 = cc in absurd (omega arith)
+then_date None f r e = absurd cc
 
 pub period_end_mono : (p : Period) (x y r s : ℕ) → period_end p x ≡ Some r → period_end p y ≡ Some s → x ≤ y → r ≤ s
 unfolding period_end

@@ -1,10 +1,10 @@
 -- Laws of specs/Periods: what the answers are.
 -- To cite: the laws named F-day and F-none (from a date that there is, or is not), `months_after_is`, `period_end_is`,
 -- `period_end_steps`, `period_end_day`, `is_after_date_of`, `is_after_days_after`, `not_after_last`. Assumes nothing.
-use Rattle.std.proofs.Common.{None, Option, Some}
+use Rattle.std.proofs.Common.{None, Some}
 use Rattle.std.proofs.lemmas.Option.{cond_some}
 use mathlib.Core.Path.{◌≡◌, refl, sym, ap, ◌∙◌}
-use mathlib.Core.Bool.{Bool, true, false, cond, not, ◌&&◌}
+use mathlib.Core.Bool.{true, false, cond, not, ◌&&◌, and-false}
 use Prim.Native.Nat.{ℕ, ◌+◌, ◌-◌, ◌*◌, ◌/◌, ◌%◌, ◌≤◌, ◌<◌}
 use native.Mathlib.Decide.{dec_le}
 use native.Mathlib.Omega.{arith}
@@ -61,13 +61,9 @@ pub days_between_no_start : (x y : ℕ) → day_of x ≡ None → days_between x
 unfolding days_between
 days_between_no_start x y e = rw (day_of_none x e)
 
-no_end : (a b : Bool) (d : Option CalendarDays) → cond (a && false && b) d None ≡ None
-no_end true b d = refl
-no_end false b d = refl
-
 pub days_between_no_end : (x y : ℕ) → day_of y ≡ None → days_between x y ≡ None
 unfolding days_between
-days_between_no_end x y e = rw (day_of_none y e) (no_end (is_date x) (leb x y) _)
+days_between_no_end x y e = rw (day_of_none y e, and-false)
 
 -- ---- business_days_after
 

@@ -1,15 +1,14 @@
 -- The year of a day. To cite: `year_start_next`, `YearOf`, `year_at_of`, `year_unique`, `by_fours`. Assumes nothing.
 use mathlib.Core.Path.{◌≡◌, refl, ap, ◌∙◌}
-use mathlib.Core.Bool.{Bool, true, false, cond, ◌&&◌}
+use mathlib.Core.Bool.{Bool, true, cond, ◌&&◌}
 use mathlib.Core.Logic.{⊎_elim}
 use Prim.Native.Nat.{ℕ, ◌+◌, ◌-◌, ◌*◌, ◌/◌, ◌≤◌, ◌<◌}
 use native.Mathlib.Omega.{arith}
 use native.Mathlib.Nat.{eq-or-lt_of_le}
 use native.Mathlib.Decide.{dec_le}
-use lib.Dec.{leb, ltb, eqb, eqb→eq}
-use borrow.Author.Tests.{leb-true, leb-false, ltb-true, ltb-false}
-use denote.Floats.{is_true}
-use Rattle.common.proofs.Every.{below}
+use lib.Dec.{leb, ltb, eqb}
+use borrow.Author.Tests.{leb-true, leb-false, ltb-true, ltb-false, eqb-true}
+use Rattle.std.proofs.lemmas.Bool.{agree_below_at, cond_both}
 use Rattle.common.proofs.Tests.{and_halves}
 use Rattle.calendar.specs.Gregorian.{leap, leap_day, first_year}
 use Rattle.calendar.specs.DayNumber.{year_start, year_at, calendar_days}
@@ -26,7 +25,7 @@ next? k = eqb (year_start (k + 1)) (year_start k + 365 + leap_day (first_year + 
 -- each year is as long as the leap rule says
 pub year_start_next : (k : ℕ) → k < 200 → year_start (k + 1) ≡ year_start k + 365 + leap_day (first_year + k)
 unfolding next? year_start leap_day leap
-year_start_next k h = eqb→eq (year_start (k + 1)) (year_start k + 365 + leap_day (first_year + k)) (below next? 200 tt k h)
+year_start_next k h = eqb-true _ _ (agree_below_at next? (λ k. true) 200 k refl h)
 
 year_start_end : year_start 200 ≡ calendar_days
 unfolding year_start
@@ -59,22 +58,18 @@ near? q = leb (year_start q) (366 * q) && leb (366 * (q + 1)) (year_start (q + 1
 near : (q : ℕ) → q < 200 → (year_start q ≤ 366 * q) × (366 * (q + 1) ≤ year_start (q + 1 + 1))
 unfolding near? year_start
 near q h =
-    let p = and_halves (leb (year_start q) (366 * q)) (is_true _ (below near? 200 tt q h)) in
+    let p = and_halves (leb (year_start q) (366 * q)) (agree_below_at near? (λ q. true) 200 q refl h) in
     (leb-true _ _ p.0, leb-true _ _ p.1)
-
-year_cases : (n : ℕ) → n < calendar_days → (b : Bool) → leb (year_start (n / 366 + 1)) n ≡ b → YearOf n (cond b (n / 366 + 1) (n / 366))
-year_cases n h true e =
-    let f = leb-true (year_start (n / 366 + 1)) n e in
-    let g = near (n / 366) (omega arith) in
-    record { in_table = year_in_table n h (n / 366 + 1) (omega arith) f; from = f; to = omega arith }
-year_cases n h false e =
-    let f = leb-false (year_start (n / 366 + 1)) n e in
-    let g = near (n / 366) (omega arith) in
-    record { in_table = omega arith; from = omega arith; to = f }
 
 pub year_at_of : (n : ℕ) → n < calendar_days → YearOf n (year_at n)
 unfolding year_at
-year_at_of n h = year_cases n h (leb (year_start (n / 366 + 1)) n) refl
+year_at_of n h =
+    let g = near (n / 366) (omega arith) in
+    cond_both (leb (year_start (n / 366 + 1)) n) (n / 366 + 1) (n / 366) (YearOf n)
+    (λ e.
+    let f = leb-true (year_start (n / 366 + 1)) n e in
+    record { in_table = year_in_table n h (n / 366 + 1) (omega arith) f; from = f; to = omega arith })
+    (λ e. record { in_table = omega arith; from = omega arith; to = leb-false (year_start (n / 366 + 1)) n e })
 
 not_earlier : (n j k : ℕ) → YearOf n j → YearOf n k → j < k → ⊥
 not_earlier n j k a b h = omega (arith, year_start_mono (j + 1) k (omega arith))
@@ -87,14 +82,13 @@ year_unique n j k a b = omega (arith, not_earlier n j k a b, not_earlier n k j b
 start_by_fours : (k : ℕ) → k ≤ 100 → year_start k ≡ (1461 * k + 3) / 4
 unfolding year_start
 start_by_fours k h =
-    eqb→eq (year_start k) ((1461 * k + 3) / 4) (below (λ j. eqb (year_start j) ((1461 * j + 3) / 4)) 101 tt k (omega arith))
+    eqb-true _ _ (agree_below_at (λ j. eqb (year_start j) ((1461 * j + 3) / 4)) (λ j. true) 101 k refl (omega arith))
 
 -- j counts from 2101
 from_101 : (j : ℕ) → j < 100 → year_start (101 + j) + 1 ≡ (1461 * (101 + j) + 3) / 4
 unfolding year_start
 from_101 j h =
-    eqb→eq (year_start (101 + j) + 1) ((1461 * (101 + j) + 3) / 4)
-    (below (λ i. eqb (year_start (101 + i) + 1) ((1461 * (101 + i) + 3) / 4)) 100 tt j h)
+    eqb-true _ _ (agree_below_at (λ i. eqb (year_start (101 + i) + 1) ((1461 * (101 + i) + 3) / 4)) (λ i. true) 100 j refl h)
 
 later_by_fours : (k : ℕ) → 100 < k → k ≤ 200 → year_start k + 1 ≡ (1461 * k + 3) / 4
 later_by_fours k h l =
@@ -130,9 +124,8 @@ from_2101 n h l =
     let b = later_by_fours (k + 1) (omega arith) (omega arith) in
     by_year n (n + 1) k l (record { in_table = omega arith; from = omega arith; to = omega arith }) (omega arith)
 
-fours_case : (b : Bool) (n : ℕ) → ltb n 36890 ≡ b → n < calendar_days → ByFours n (cond b n (n + 1)) (4 * cond b n (n + 1) / 1461)
-fours_case true n e h = to_2100 n (ltb-true n 36890 e)
-fours_case false n e h = from_2101 n (ltb-false n 36890 e) h
-
 pub by_fours : (n m : ℕ) → n < calendar_days → m ≡ cond (ltb n 36890) n (n + 1) → ByFours n m (4 * m / 1461)
-by_fours n m h e = rw e (fours_case (ltb n 36890) n refl h)
+by_fours n m h e =
+    rw e
+    (cond_both (ltb n 36890) n (n + 1) (λ m. ByFours n m (4 * m / 1461))
+    (λ t. to_2100 n (ltb-true n 36890 t)) (λ f. from_2101 n (ltb-false n 36890 f) h))

@@ -5,7 +5,7 @@ use Rattle.std.specs.Result.{is_err}
 use mathlib.Core.Bool.{Bool, true, false, cond}
 use mathlib.Core.List.{List, [], ◌∷◌, ◌++◌}
 use Rattle.common.specs.Checks.{Check, judged}
-use Rattle.common.proofs.Tests.{never, and_halves}
+use Rattle.common.proofs.Tests.{and_halves}
 use mathlib.Core.Path.{◌≡◌, refl, sym, ◌∙◌, ap}
 pub use Rattle.common.proofs.Checks.{judged_passes}
 use Rattle.common.proofs.Checks.{all_refuse}
@@ -46,4 +46,4 @@ judged_then (c ∷ cs) ds n =
         → cond b (judged (cs ++ ds) (Ok tt)) f ≡ then_ruled (cond b (judged cs (Ok tt)) f) (judged ds (Ok tt))
     by_test true f r e = e
     by_test false (Err x) r e = refl
-    by_test false (Ok tt) r e = absurd (never r refl)
+    by_test false (Ok tt) r e = absurd cc

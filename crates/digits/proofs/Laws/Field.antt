@@ -10,19 +10,11 @@ use Prim.Native.Nat.{ℕ, zero, suc, ◌+◌, ◌-◌, ◌*◌, ◌/◌, ◌^◌
 use native.Mathlib.Nat.{pow-succ', one-le-pow, eq-zero-or-pos, eq-or-lt_of_le, add-zero}
 use native.Mathlib.Omega.{arith}
 use lib.Dec.{leb, ltb, eqb, lit<}
-use lib.ListN.{length, length-append}
+use lib.ListN.{length}
 use borrow.Author.Tests.{leb-true, le-leb, lt-ltb, eqb-true, eqb-false, eq-eqb, ne_eqb}
-use Rattle.common.proofs.Tests.{never, and_halves, and_true, either, false_unless}
+use Rattle.std.proofs.lemmas.List.{length_push}
+use Rattle.common.proofs.Tests.{and_halves, and_true, either, false_unless}
 use Rattle.digits.specs.Field.{blank, zero_digit, last_digit, signed_padded, signed_field, field_bytes, is_digit, read_digits, read_number, read_field}
-
--- ---- powers of ten
-
-ten : (w : ℕ) → 10 ^ suc w ≡ 10 * 10 ^ w
-ten w = pow-succ' 10 w
-
--- a number of w + 1 digits without its last has w digits
-div_narrow : (w v : ℕ) → v < 10 ^ suc w → v / 10 < 10 ^ w
-div_narrow w v h = let p = ten w in omega arith
 
 -- ---- signed_padded, signed_field
 
@@ -42,21 +34,18 @@ signed_padded_more w s v n =
     (λ (b : Bool). cond b (signed_padded w blank v ++ (s ∷ [])) (signed_padded w s (v / 10) ++ (last_digit v ∷ [])))
     (ne_eqb v 0 n)
 
-length_last : (l : List ℕ) (b w : ℕ) → length l ≡ w → length (l ++ (b ∷ [])) ≡ suc w
-length_last l b w e = length-append l (b ∷ []) ∙ omega (arith, e)
-
 length_signed_padded : (w s v : ℕ) → length (signed_padded w s v) ≡ w
 unfolding signed_padded
 length_signed_padded zero s v = refl
 length_signed_padded (suc w) s v =
     either (eqb v 0)
-    (λ e. ap length (signed_padded_none w s v (eqb-true v 0 e)) ∙ length_last (signed_padded w blank v) s w (length_signed_padded w blank v))
-    (λ e. ap length (signed_padded_more w s v (eqb-false v 0 e)) ∙ length_last (signed_padded w s (v / 10)) (last_digit v) w (length_signed_padded w s (v / 10)))
+    (λ e. omega (arith, ap length (signed_padded_none w s v (eqb-true v 0 e)), length_push (signed_padded w blank v) s, length_signed_padded w blank v))
+    (λ e. omega (arith, ap length (signed_padded_more w s v (eqb-false v 0 e)), length_push (signed_padded w s (v / 10)) (last_digit v), length_signed_padded w s (v / 10)))
 
 pub length_signed_field : (w s v : ℕ) → length (signed_field w s v) ≡ w
 unfolding signed_field
 length_signed_field zero s v = refl
-length_signed_field (suc w) s v = length_last (signed_padded w s (v / 10)) (last_digit v) w (length_signed_padded w s (v / 10))
+length_signed_field (suc w) s v = omega (arith, length_push (signed_padded w s (v / 10)) (last_digit v), length_signed_padded w s (v / 10))
 
 -- ---- without a sign
 
@@ -85,12 +74,12 @@ padded_wider zero v h = rw (eq-eqb v 0 (omega arith))
 padded_wider (suc w) v h =
     let b = cond (eqb v 0) blank (last_digit v) in
     padded_last (suc w) v b refl
-    ∙ ap (λ (l : List ℕ). l ++ (b ∷ [])) (padded_wider w (v / 10) (div_narrow w v h))
+    ∙ ap (λ (l : List ℕ). l ++ (b ∷ [])) (padded_wider w (v / 10) (omega (arith, h, pow-succ' 10 w)))
     ∙ ap (λ (l : List ℕ). blank ∷ l) (sym (padded_last w v b refl))
 
 field_bytes_wider : (w v : ℕ) → v < 10 ^ suc w → field_bytes (suc (suc w)) v ≡ blank ∷ field_bytes (suc w) v
 unfolding signed_field
-field_bytes_wider w v h = rw (padded_wider w (v / 10) (div_narrow w v h))
+field_bytes_wider w v h = rw (padded_wider w (v / 10) (omega (arith, h, pow-succ' 10 w)))
 
 field_bytes_padded : (w v : ℕ) → 0 < v → field_bytes (suc w) v ≡ padded (suc w) v
 unfolding signed_field
@@ -210,7 +199,7 @@ read_digits_narrow w u v [] h e = let p : u ≡ v = cc in rw (add-zero, ← p) h
 read_digits_narrow w u v (b ∷ bs) h e =
     let p = cond_value (is_digit b) _ v e in
     let d = digit_facts b p.0 in
-    let t = ten w in
+    let t = pow-succ' 10 w in
     subst (λ (n : ℕ). v < 10 ^ n) (omega arith)
     (read_digits_narrow (suc w) (u * 10 + (b - zero_digit)) v bs (omega arith) p.1)
 
@@ -227,7 +216,7 @@ read_number_leads v b [] h e =
     omega (arith, eqb-true b zero_digit t)
 read_number_leads v b (x ∷ bs) h e =
     false_unless (eqb b zero_digit) λ t.
-    never (and_true t (lt-ltb 0 (suc (length bs)) (omega arith))) (cond_no (eqb b zero_digit && ltb 0 (suc (length bs))) _ v e).0
+    cc (and_true t (lt-ltb 0 (suc (length bs)) (omega arith)), (cond_no (eqb b zero_digit && ltb 0 (suc (length bs))) _ v e).0)
 
 -- a number above 0, and a digit more at its right edge
 read_number_more : (v d : ℕ) (l : List ℕ)
@@ -275,7 +264,7 @@ module _ (w : ℕ) (above : (q : ℕ) → 0 < q → q < 10 ^ w → read_field (p
       ∙ read_field_digit (last_digit v) (last_digit_is_digit v)
       ∙ ap Some (omega arith))
       (λ p.
-      read_field_more (v / 10) (last_digit v) (padded w (v / 10)) p (last_digit_is_digit v) (above (v / 10) p (div_narrow w v h))
+      read_field_more (v / 10) (last_digit v) (padded w (v / 10)) p (last_digit_is_digit v) (above (v / 10) p (omega (arith, h, pow-succ' 10 w)))
       ∙ ap Some (omega arith))
       (eq-zero-or-pos (v / 10))
 
@@ -305,7 +294,7 @@ reads_zero b v [] z e =
     record { bytes = ap (λ (x : ℕ). x ∷ []) (omega arith); narrow = omega arith }
 reads_zero b v (x ∷ bs) z e =
     absurd
-    (never (and_true z (lt-ltb 0 (suc (length bs)) (omega arith))) (cond_no (eqb b zero_digit && ltb 0 (suc (length bs))) _ v e).0)
+    (cc (and_true z (lt-ltb 0 (suc (length bs)) (omega arith)), (cond_no (eqb b zero_digit && ltb 0 (suc (length bs))) _ v e).0))
 
 -- a digit above 0, and digits
 reads_digits : (b v : ℕ) (bs : List ℕ) → eqb b zero_digit ≡ false → read_number (b ∷ bs) ≡ Some v → Reads (b ∷ bs) v
@@ -337,7 +326,7 @@ unfolding read_field
 reads_blank b v [] s e r = absurd cc
 reads_blank b v (x ∷ bs) s e r = record {
   bytes = field_bytes_wider (length bs) v r.narrow ∙ rw (r.bytes, s);
-  narrow = let t = ten (suc (length bs)) in omega (arith, r.narrow);
+  narrow = omega (arith, r.narrow, pow-succ' 10 (suc (length bs)));
 }
 
 read_field_reads : (l : List ℕ) (v : ℕ) → read_field l ≡ Some v → Reads l v

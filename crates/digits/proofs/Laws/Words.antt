@@ -13,15 +13,14 @@ use lib.Arith.{mod-mul}
 use lib.Bits.{bit_and, and_block, and_le_r}
 use lib.Dec.{leb, ltb, eqb, lit<, lit≤}
 use lib.ListN.{length, take, drop, get_or, length-take, length-drop}
-use lib.Seq.{drop-cons, drop-drop, take-add, take-take}
+use lib.Seq.{drop-cons, drop-drop, take-add, take-take, length-take-le}
 use borrow.Author.Tests.{leb-true, le-leb, lt-leb, ltb-true, ltb-false, lt-ltb, eqb-true, eqb-false, eq-eqb, ne_eqb}
-use denote.Floats.{is_true}
 use Rattle.std.specs.Int.{w64, byte_at, bytes_low_first, from_le_bytes}
 use Rattle.std.proofs.lemmas.Nat.{le_bytes_8}
-use Rattle.std.proofs.lemmas.List.{get_or-take, get_or-drop, get_or_past}
+use Rattle.std.proofs.lemmas.List.{get_or-take, get_or_past}
 use Rattle.std.proofs.Math.Nat.{div-div-eq-div-mul}
-use Rattle.common.proofs.Every.{below}
-use Rattle.common.proofs.Tests.{either, never, not_true, same_arms, and_halves}
+use Rattle.std.proofs.lemmas.Bool.{agree_below_at}
+use Rattle.common.proofs.Tests.{either, not_true, same_arms, and_halves}
 use Rattle.digits.specs.Field.{blank, zero_digit, is_digit, read_digits, read_number, read_field}
 use Rattle.digits.specs.Words.{bytes_of, are_digits, digits_from, led_by, onward, onward_of}
 use Rattle.digits.proofs.Laws.Field.{digit_facts, read_field_digit}
@@ -62,13 +61,7 @@ bytes_of_bytes (suc n) w = (omega arith, bytes_of_bytes n (w / 256))
 
 eqb_block : (x y a b : ℕ) → a < 256 → b < 256 → eqb (x * 256 + a) (y * 256 + b) ≡ eqb a b && eqb x y
 eqb_block x y a b ha hb =
-    either (eqb a b)
-    (λ p.
-    let i = eqb-true a b p in
-    either (eqb x y)
-    (λ q. let j = eqb-true x y q in rw (p, q) (eq-eqb (x * 256 + a) (y * 256 + b) (omega arith)))
-    (λ q. rw (p, q) (ne_eqb (x * 256 + a) (y * 256 + b) (λ e. eqb-false x y q (omega arith)))))
-    (λ p. rw p (ne_eqb (x * 256 + a) (y * 256 + b) (λ e. eqb-false a b p (omega arith))))
+    grind arith
 
 -- ---- the test for digits: the upper half of a byte, and of the byte with 6 added
 
@@ -100,7 +93,7 @@ byte? b = cond (high b) (cond (is_digit b) (high (b + 6)) (not (high (b + 6))) &
 
 byte_facts : (b : ℕ) → b < 256 → byte? b ≡ true
 unfolding byte?
-byte_facts b h = is_true _ (below byte? 256 tt b h)
+byte_facts b h = agree_below_at byte? (λ b. true) 256 b refl h
 
 -- what the test says of a byte
 digit_high : (b : ℕ) → b < 256 → high b ≡ false → is_digit b ≡ false
@@ -111,16 +104,12 @@ high_six : (b : ℕ) → b < 256 → high b ≡ true → (high (b + 6) ≡ is_di
 unfolding byte?
 high_six b h e =
     let p = and_halves (cond (is_digit b) (high (b + 6)) (not (high (b + 6)))) (rw e at (byte_facts b h)) in
-    (six (is_digit b) (high (b + 6)) p.0, leb-true b 63 p.1)
-  where
-    six : (d s : Bool) → cond d s (not s) ≡ true → s ≡ d
-    six true s q = q
-    six false s q = not_true q
+    (grind (arith, p.0), leb-true b 63 p.1)
 
 -- of all bytes
 high_digits : (bs : List ℕ) → Bytes bs → high_all bs ≡ false → are_digits bs ≡ false
 unfolding high_all are_digits
-high_digits [] p e = absurd (never refl e)
+high_digits [] p e = absurd cc
 high_digits (b ∷ bs) p e =
     either (high b)
     (λ t.
@@ -214,15 +203,6 @@ pair v d k j t hd hk hj e =
 last_pair : (g h : ℕ) → g ≤ 9 → h ≤ 9 → (((0 * 256 + h) * 256 + g) * 10 + (0 * 256 + h)) % 256 ≡ g * 10 + h
 last_pair g h hg hh = omega arith
 
-low_off : (v j : ℕ) → j ≤ 9 → (v * 256 + j) / 256 ≡ v
-low_off v j hj = omega arith
-
-div_twice : (x : ℕ) → x / 4294967296 ≡ x / 65536 / 65536
-div_twice x = omega arith
-
-div_thrice : (x : ℕ) → x / 281474976710656 ≡ x / 4294967296 / 65536
-div_thrice x = omega arith
-
 -- eight digits from the lowest byte on
 abbrev tower : ℕ → ℕ → ℕ → ℕ → ℕ → ℕ → ℕ → ℕ → ℕ
 tower a b c d e f g h = word_of (a ∷ b ∷ c ∷ d ∷ e ∷ f ∷ g ∷ h ∷ [])
@@ -240,16 +220,16 @@ module _ (a b c d e f g h : ℕ) (ha : a ≤ 9) (hb : b ≤ 9) (hc : c ≤ 9) (h
       let v7 : ℕ = word_of (h ∷ []) in
       let s0 = pair v3 a b c t ha hb hc i in
       let t2 : ℕ = v3 * 256 + c in
-      let q2 : t2 / 256 ≡ v3 = low_off v3 c hc in
+      let q2 : t2 / 256 ≡ v3 = omega arith in
       let s2 = pair v5 c d e t2 hc hd he refl in
       let t4 : ℕ = v5 * 256 + e in
-      let q4 : t4 / 256 ≡ v5 = low_off v5 e he in
+      let q4 : t4 / 256 ≡ v5 = omega arith in
       let s4 = pair v7 e f g t4 he hf hg refl in
       let t6 : ℕ = v7 * 256 + g in
       let p2 : p / 65536 ≡ t2 * 10 + t2 / 256 = s0.1 ∙ ap (λ (x : ℕ). t2 * 10 + x) (sym q2) in
       let p4 : p / 4294967296 ≡ t4 * 10 + t4 / 256 =
-      div_twice p ∙ ap (λ (x : ℕ). x / 65536) p2 ∙ s2.1 ∙ ap (λ (x : ℕ). t4 * 10 + x) (sym q4) in
-      let p6 : p / 281474976710656 ≡ t6 * 10 + v7 = div_thrice p ∙ ap (λ (x : ℕ). x / 65536) p4 ∙ s4.1 in
+      sym (div-div-eq-div-mul p 65536 65536) ∙ ap (λ (x : ℕ). x / 65536) p2 ∙ s2.1 ∙ ap (λ (x : ℕ). t4 * 10 + x) (sym q4) in
+      let p6 : p / 281474976710656 ≡ t6 * 10 + v7 = sym (div-div-eq-div-mul p 4294967296 65536) ∙ ap (λ (x : ℕ). x / 65536) p4 ∙ s4.1 in
       let r0 : p % 256 ≡ a * 10 + b = s0.0 in
       let r2 : p / 65536 % 256 ≡ c * 10 + d = ap (λ (x : ℕ). x % 256) p2 ∙ s2.0 in
       let r4 : p / 4294967296 % 256 ≡ e * 10 + f = ap (λ (x : ℕ). x % 256) p4 ∙ s4.0 in
@@ -320,16 +300,12 @@ tower_off : (a b c d e f g h : ℕ)
     → Eight a b c d e f g h
     → tower a b c d e f g h - 3472328296227680304 ≡ tower (a - 48) (b - 48) (c - 48) (d - 48) (e - 48) (f - 48) (g - 48) (h - 48)
 tower_off a b c d e f g h p =
-    off _ _
-    (shift a b c d e f g h (a - 48) (b - 48) (c - 48) (d - 48) (e - 48) (f - 48) (g - 48) (h - 48) (plain a p.a_is.0) (plain b p.b_is.0)
-    (plain c p.c_is.0) (plain d p.d_is.0) (plain e p.e_is.0) (plain f p.f_is.0) (plain g p.g_is.0) (plain h p.h_is.0))
+    omega (
+      arith,
+      shift a b c d e f g h (a - 48) (b - 48) (c - 48) (d - 48) (e - 48) (f - 48) (g - 48) (h - 48) (omega (arith, p.a_is)) (omega (arith, p.b_is))
+          (omega (arith, p.c_is)) (omega (arith, p.d_is)) (omega (arith, p.e_is)) (omega (arith, p.f_is)) (omega (arith, p.g_is)) (omega (arith, p.h_is)),
+    )
   where
-    plain : (x : ℕ) → 48 ≤ x → x ≡ 48 + (x - 48)
-    plain x l = omega arith
-
-    off : (x y : ℕ) → x ≡ y + 3472328296227680304 → x - 3472328296227680304 ≡ y
-    off x y q = omega arith
-
     shift : (a b c d e f g h a' b' c' d' e' f' g' h' : ℕ)
         → a ≡ 48 + a' → b ≡ 48 + b' → c ≡ 48 + c' → d ≡ 48 + d' → e ≡ 48 + e' → f ≡ 48 + f' → g ≡ 48 + g' → h ≡ 48 + h'
         → tower a b c d e f g h ≡ tower a' b' c' d' e' f' g' h' + 3472328296227680304
@@ -392,7 +368,7 @@ blank_test (suc k) (b ∷ bs) p h =
 blanks_list : (k : ℕ) (bs : List ℕ) → are_blanks k bs ≡ true → bs ≡ rep k blank (drop k bs)
 unfolding are_blanks
 blanks_list zero bs e = refl
-blanks_list (suc k) [] e = absurd (never e refl)
+blanks_list (suc k) [] e = absurd cc
 blanks_list (suc k) (b ∷ bs) e =
     let t = and_halves (eqb b blank) e in
     ap (λ (x : ℕ). x ∷ bs) (eqb-true b blank t.0) ∙ ap (λ (l : List ℕ). blank ∷ l) (blanks_list k bs t.1)
@@ -559,7 +535,7 @@ unfolding are_blanks read_field
 rest_led [] n h e = absurd (omega arith)
 rest_led (r ∷ rs) n h e =
     let m : length rs ≡ suc n = omega arith in
-    either (eqb r blank) (λ t. absurd (never (rw t) e))
+    either (eqb r blank) (λ t. absurd cc)
     (λ t.
     rw t (subst (λ (j : ℕ). read_number (r ∷ rs) ≡ led_by (10 ^ j) (r ∷ rs)) m (number_led r rs (omega arith))))
 
@@ -614,26 +590,28 @@ bytes_low (suc k) i n =
 pub word_bytes_are : (bs : List ℕ) (n : ℕ) → length bs ≡ 8 → ((i : ℕ) → get_or bs i 0 < 256) → n ≡ from_le_bytes w64 bs → bytes_of 8 n ≡ bs
 word_bytes_are bs n l small e = ap (bytes_of 8) (omega arith) ∙ sym (bytes_low 8 0 n) ∙ le_bytes_8 bs n l small e
 
-pub word_take : (l : List ℕ) (at n : ℕ) (bs : List ℕ)
-    → at + 8 ≤ length l
+-- the first eight bytes of some
+pub word_front : (l : List ℕ) (n : ℕ) (bs : List ℕ)
+    → 8 ≤ length l
     → ((i : ℕ) → get_or l i 0 < 256)
-    → bs ≡ take 8 (take (length l - at) (drop at l))
+    → bs ≡ take 8 l
     → n ≡ from_le_bytes w64 bs
-    → bytes_of 8 n ≡ take 8 (drop at l)
-word_take l at n bs h small e f =
-    let m : length (take (length l - at) (drop at l)) ≡ length l - at = length-take (length l - at) (drop at l) ∙ (let d = length-drop at l in omega arith) in
-    let g : bs ≡ take 8 (drop at l) = e ∙ take-take 8 (length l - at) (drop at l) (omega arith) in
-    let k : length bs ≡ 8 = ap length g ∙ length-take 8 (drop at l) ∙ (let d = length-drop at l in omega arith) in
-    word_bytes_are bs n k (λ i. rw g (below i)) f ∙ g
+    → bytes_of 8 n ≡ take 8 l
+word_front l n bs h small e f =
+    word_bytes_are bs n (ap length e ∙ length-take-le 8 l h) (λ i. rw e (below i)) f ∙ e
   where
-    below : (i : ℕ) → get_or (take 8 (drop at l)) i 0 < 256
+    below : (i : ℕ) → get_or (take 8 l) i 0 < 256
     below i =
         either (ltb i 8)
-        (λ t. let p : i < 8 = ltb-true i 8 t in rw (get_or-take, get_or-drop) (small (at + i)))
+        (λ t. let p : i < 8 = ltb-true i 8 t in rw get_or-take (small i))
         (λ t.
-        let m = length-take 8 (drop at l) in
-        let p : length (take 8 (drop at l)) ≤ i = omega (arith, ltb-false i 8 t) in
+        let m = length-take-le 8 l h in
+        let p : length (take 8 l) ≤ i = omega (arith, ltb-false i 8 t) in
         rw get_or_past (lit< tt))
+
+-- the same from a place of a line on
+pub word_columns : (l : List ℕ) (m : ℕ) → m + 8 ≤ length l → take 8 (take (length l - m) (drop m l)) ≡ take 8 (drop m l)
+word_columns l m h = take-take 8 (length l - m) (drop m l) (omega arith)
 
 -- ---- columns that others follow
 
@@ -736,19 +714,23 @@ pub columns_none : (xs ys s : List ℕ) (i v : ℕ)
 columns_none xs ys s i v e h p q =
     sym q ∙ ap (λ (m : List ℕ). onward v (m ++ s)) (sym (drop-cons xs i 0 h)) ∙ p ∙ ap (λ (m : List ℕ). read_field (m ++ s)) e
 
--- n columns, of which r comes, and k behind them
-pub columns_read : (l : List ℕ) (at n k width : ℕ) (r : Option ℕ)
-    → ((s : List ℕ) → 0 < length s → onward_of r s ≡ read_field (take n (drop at l) ++ s))
-    → n + k ≡ width
+-- the columns before a place, of which r comes, and k from there on
+pub columns_read : (l : List ℕ) (at middle k width : ℕ) (r : Option ℕ)
+    → ((s : List ℕ) → 0 < length s → onward_of r s ≡ read_field (take (middle - at) (drop at l) ++ s))
+    → at ≤ middle
+    → middle + k ≡ at + width
     → 0 < k
     → at + width ≤ length l
-    → onward_of r (take k (drop (at + n) l)) ≡ read_field (take width (drop at l))
-columns_read l at n k width r read i j h =
-    read (take k (drop (at + n) l)) (let m = length-take k (drop (at + n) l) in let d = length-drop (at + n) l in omega arith)
+    → onward_of r (take k (drop middle l)) ≡ read_field (take width (drop at l))
+columns_read l at middle k width r read o i j h =
+    let n = middle - at in
+    let q : middle ≡ at + n = omega arith in
+    read (take k (drop middle l)) (let m = length-take k (drop middle l) in let d = length-drop middle l in omega arith)
     ∙ ap read_field
-    (ap (λ (m : List ℕ). take n (drop at l) ++ take k m) (sym (drop-drop n at l))
+    (ap (λ (m : ℕ). take n (drop at l) ++ take k (drop m l)) q
+    ∙ ap (λ (m : List ℕ). take n (drop at l) ++ take k m) (sym (drop-drop n at l))
     ∙ sym (take-add n k (drop at l))
-    ∙ ap (λ (m : ℕ). take m (drop at l)) i)
+    ∙ ap (λ (m : ℕ). take m (drop at l)) (omega arith))
 
 pub column : (l : List ℕ) (i : ℕ) → i < length l → take 1 (drop i l) ≡ get_or l i 0 ∷ []
 column l i h = ap (take 1) (drop-cons l i 0 h)

@@ -12,7 +12,8 @@ use lib.Dec.{leb, eqb}
 use native.Mathlib.Nat.{le_antisymm, eq-or-lt_of_le}
 use borrow.Author.Tests.{leb-true, le-leb, eqb-true}
 use Rattle.std.proofs.lemmas.Option.{cond_some}
-use Rattle.common.proofs.Tests.{never, and_halves, and_true}
+use Rattle.std.proofs.lemmas.Option.{same_Some}
+use Rattle.common.proofs.Tests.{either, and_halves, and_true}
 use Rattle.common.proofs.Checks.{check_passes}
 use Rattle.calendar.specs.Gregorian.{in_range, last_date}
 use Rattle.calendar.proofs.Laws.Gregorian.{range_facts}
@@ -62,12 +63,6 @@ abbrev pub every_row : (Row → Bool) → List Row → Bool
 every_row f [] = true
 every_row f (r ∷ rs) = f r && every_row f rs
 
-cond_found : (b : Bool) (r s : Row) (x : Option Row)
-    → cond b (Some r) x ≡ Some s
-    → ((b ≡ true) × (r ≡ s)) ⊎ (x ≡ Some s)
-cond_found true r s x e = inl (refl, cc)
-cond_found false r s x e = inr e
-
 pub row_in_every : (f : Row → Bool) (rs : List Row) (kind code : ℕ) (s : Row)
     → every_row f rs ≡ true
     → row_in rs kind code ≡ Some s
@@ -75,16 +70,16 @@ pub row_in_every : (f : Row → Bool) (rs : List Row) (kind code : ℕ) (s : Row
 row_in_every f [] kind code s t e = absurd cc
 row_in_every f (r ∷ rs) kind code s t e =
     let p = and_halves (f r) t in
-    ⊎_elim (λ q. ap f (sym q.1) ∙ p.0)
-    (λ q. row_in_every f rs kind code s p.1 q)
-    (cond_found (is_of kind code r) r s (row_in rs kind code) e)
+    either (is_of kind code r)
+    (λ q. let i : r ≡ s = cc (rw q at e) in rw (← i) p.0)
+    (λ q. row_in_every f rs kind code s p.1 (rw q at e))
 
 pub row_in_is_of : (rs : List Row) (kind code : ℕ) (s : Row) → row_in rs kind code ≡ Some s → is_of kind code s ≡ true
 row_in_is_of [] kind code s e = absurd cc
 row_in_is_of (r ∷ rs) kind code s e =
-    ⊎_elim (λ q. ap (is_of kind code) (sym q.1) ∙ q.0)
-    (λ q. row_in_is_of rs kind code s q)
-    (cond_found (is_of kind code r) r s (row_in rs kind code) e)
+    either (is_of kind code r)
+    (λ q. let i : r ≡ s = cc (rw q at e) in rw (← i) q)
+    (λ q. row_in_is_of rs kind code s (rw q at e))
 
 -- the same of the whole table
 pub row_of_every : (f : Row → Bool) (kind code : ℕ) (s : Row)
@@ -176,7 +171,7 @@ record Looked (x : Option Row) (e : Event) : Type 0 where
   fits : Fits limits e
 
 answer_looked : (x : Option Row) (e : Event) → row_answer_fits x e ≡ true → Looked x e
-answer_looked None e t = absurd (never t refl)
+answer_looked None e t = absurd cc
 answer_looked (Some r) e t = record { limits = r; found = refl; fits = row_facts r e t }
 
 fields_looked : (e : Event) → fields_fit e ≡ true → Looked (row_of e.kind e.code) e
@@ -262,15 +257,14 @@ pub amend_facts : (e : Event)
     → ((e.code ≡ 0) × AmendBankFields e) ⊎ ((e.code ≡ 1) × AmendCreditorFields e)
 unfolding row_of table
 amend_facts e m h =
-    ⊎_elim
+    either (within (only 0) e.code)
     (λ p.
-    let b = within_between _ _ p.0 in
-    let f = subst (λ (s : Row). Fits s e) (sym p.1) m.fits in
+    let b = within_between _ _ p in
+    let f = subst (λ (s : Row). Fits s e) (sym (same_Some _ _ (rw p at (rw h at m.found)))) m.fits in
     inl (le_antisymm b.to b.from, record { mandate = f.mandate; bank = f.c }))
-    (λ t.
-    let o = of_one e _ m t in
+    (λ p.
+    let o = of_one e _ m (rw p at (rw h at m.found)) in
     inr (le_antisymm o.code.to o.code.from, record { mandate = o.fits.mandate; creditor = o.fits.a }))
-    (cond_found (within (only 0) e.code) _ m.limits _ (rw h at m.found))
 
 pub record CancelFields (e : Event) : Type 0 where
   pub mandate : Between number e.mandate

@@ -1,6 +1,6 @@
 -- Laws of specs/Fitness. Each part of fitness has a record of named facts: F-facts reads it out of the test, F-made makes
 -- the test of it. To cite: `Fit`, `Sizes`, `HeaderFit`, `MandateFit`, `CollectionFit`, `CreditorFit`; `rows_fit_put_used`
--- and `rows_fit_put_next` (a fit table with a fit row put in it is fit), `rows_fit_implies`, and what an event may change:
+-- and `rows_fit_put_next` (a fit table with a fit row put in it is fit), `rows_fit_implies`, `rows_fit_all`, and what an event may change:
 -- `mandate_fit_added`, `collection_fit_added`, `collection_fit_later`, `creditors_fit_added`, `creditors_fit_posted`,
 -- `positions_fit_posted`. Assumes nothing.
 use mathlib.Core.Path.{◌≡◌, refl, ◌∙◌, ap}
@@ -11,14 +11,19 @@ use Prim.Native.Nat.{ℕ, zero, suc, ◌+◌, ◌-◌, ◌%◌, ◌≤◌, ◌<�
 use native.Mathlib.Omega.{arith}
 use borrow.Author.Tests.{leb-true, le-leb, eqb-true, eqb-false, eq-eqb, ltb-true, ltb-false}
 use lib.Dec.{eqb, leb, ltb}
-use lib.IntN.{ℤ, pos, negsuc, nat_abs}
+use lib.IntN.{ℤ, pos, nat_abs}
 use lib.ListN.{length, get_or, set, length-set}
 use lib.Seq.{get_or-set_same, get_or-set_other}
+use Rattle.std.proofs.Common.{map}
+use Rattle.std.specs.List.{list_all, range_with_len}
+use Rattle.std.proofs.lemmas.List.Folds.{list_all-map}
 use Rattle.common.specs.Tests.{all_of}
 use Rattle.common.specs.Walk.{all_from}
-use Rattle.common.proofs.Tests.{never, either, and_halves, and_true, or_cases, all_of_at}
+use Rattle.std.proofs.lemmas.Bool.{or_cases, or_right}
+use Rattle.std.proofs.lemmas.Int.{ints}
+use Rattle.common.proofs.Tests.{either, and_halves, and_true, all_of_at}
 use Rattle.common.proofs.Made.{all_of_made, all_of_set}
-use Rattle.common.proofs.Walk.{all_from_at, all_from_made}
+use Rattle.common.proofs.Walk.{all_from_at, all_from_made, all_of_range}
 use Rattle.calendar.specs.Gregorian.{in_range}
 use Rattle.tables.specs.declared.Mandate.{Mandate}
 use Rattle.tables.specs.declared.Standing.{Standing}
@@ -32,9 +37,11 @@ use Rattle.tables.specs.MandateColumn
 use Rattle.tables.specs.CollectionColumn
 use Rattle.tables.specs.Records.{standing_tag, flag_cell, mandate_cells, mandate_from, state_tag, state_day, state_of, collection_cells, collection_from}
 use Rattle.tables.specs.Rows.{rows, row_at, put_row, mandate_at, put_mandate, collection_at, put_collection}
+use Rattle.tables.specs.Lookup.{existing}
 use Rattle.tables.specs.Ledger.{Ledger, bank_of, added}
 use Rattle.fitness.specs.Fitness.{is_from_to, none_or_date, position_fit, compensation_fit, is_zero, row_count_fit, size_tests, sizes_of, sizes_fit, header_tests, header_of, header_fit, row_fit, rows_fit, mandate_tests, mandate_fit, day_fit, collection_tests, collection_fit, creditor_tests, creditor_fit, creditor_fit_at, creditors_fit, position_fit_at, positions_fit, content_tests, fit}
 use Rattle.tables.proofs.Laws.Rows.{row_at_put_same, row_at_put_other}
+use Rattle.tables.proofs.Laws.Lookup.{existing_fit}
 use Rattle.tables.proofs.Laws.Ledger.{bank_of_zero, bank_of_at, bank_of_past, added_set}
 
 -- ---- limits of one value
@@ -53,14 +60,10 @@ within_made low high x w = and_true (le-leb low x w.from) (le-leb x high w.to)
 
 -- a position lies within the limit on either side
 pub position_facts : (z : ℤ) → position_fit z ≡ true → nat_abs z ≤ position_limit
-position_facts (pos n) e = leb-true n position_limit e
-position_facts (negsuc n) e =
-    let h : n ≤ 9999999999999999 = leb-true n 9999999999999999 (and_halves (leb n 9999999999999999) e).0 in
-    omega arith
+position_facts z e = grind (arith, ints)
 
 pub position_made : (z : ℤ) → nat_abs z ≤ position_limit → position_fit z ≡ true
-position_made (pos n) h = le-leb n position_limit h
-position_made (negsuc n) h = and_true (le-leb n 9999999999999999 (omega arith)) refl
+position_made z h = grind (arith, ints)
 
 -- the compensation is a number of cents
 pub record Compensation (z : ℤ) : Type 0 where
@@ -68,12 +71,10 @@ pub record Compensation (z : ℤ) : Type 0 where
   pub to : nat_abs z ≤ position_limit
 
 pub compensation_facts : (z : ℤ) → compensation_fit z ≡ true → Compensation z
-compensation_facts (pos n) e =
-    record { cents = refl; to = leb-true n position_limit (and_halves (leb 0 n) e).1 }
-compensation_facts (negsuc n) e = absurd (never e refl)
+compensation_facts z e = record { cents = grind (arith, ints); to = grind (arith, ints) }
 
 pub compensation_made : (n : ℕ) → n ≤ position_limit → compensation_fit (pos n) ≡ true
-compensation_made n h = and_true (le-leb 0 n (omega arith)) (le-leb n position_limit h)
+compensation_made n h = grind (arith, ints)
 
 -- ---- sizes
 
@@ -205,6 +206,11 @@ module _ (test : List ℕ → Bool) (cells : List ℕ) where
   unfolding rows_fit
   rows_fit_put_next used fields n e t h =
       rows_fit_put used (used + 1) used fields n e t h (λ k l ne. omega (arith, ne))
+
+  -- the used rows one after the other
+  pub rows_fit_all : (used : ℕ) → used ≤ rows cells → list_all test (map (row_at stride cells) (range_with_len 0 (existing cells used))) ≡ rows_fit test cells used
+  unfolding rows_fit
+  rows_fit_all used h = rw (existing_fit cells used h) (list_all-map test (row_at stride cells) (range_with_len 0 used) ∙ all_of_range (row_fit test cells) 0 used)
 
 -- a test that follows from another one passes wherever that did
 pub rows_fit_implies :
@@ -382,18 +388,14 @@ module _ (latest : ℕ) (creditors cells : List ℕ) (used : ℕ) (c : Collectio
 
 -- ---- what keeps a row fit
 
-or_true : (a : Bool) {b : Bool} → b ≡ true → a || b ≡ true
-or_true true e = refl
-or_true false e = e
-
 day_fit_later : (latest tag day later : ℕ) → latest ≤ later → day_fit latest tag day ≡ true → day_fit later tag day ≡ true
 day_fit_later latest tag day later h e =
     ⊎_elim
     (λ p. rw p)
     (λ p.
     let d = day_facts latest day p in
-    or_true (leb tag 1) (day_made later day (record { date = d.date; to = omega (arith, d.to) })))
-    (or_cases (leb tag 1) e)
+    or_right (leb tag 1) _ (day_made later day (record { date = d.date; to = omega (arith, d.to) })))
+    (or_cases (leb tag 1) _ e)
 
 -- the places of the tests that the creditors and the latest date decide
 abbrev exists_test : ℕ
@@ -432,11 +434,7 @@ module _ (latest : ℕ) (creditors fields : List ℕ) (e : collection_fit latest
 -- ---- creditors and their positions
 
 pub zero_facts : (z : ℤ) → is_zero z ≡ true → z ≡ pos 0
-zero_facts (pos n) e =
-    let h : n ≤ 0 = leb-true n 0 (and_halves (leb 0 n) e).1 in
-    let z : n ≡ 0 = omega arith in
-    ap pos z
-zero_facts (negsuc n) e = absurd (never e refl)
+zero_facts z e = grind (arith, ints)
 
 pub record CreditorFit (bank : ℕ) (position : ℤ) : Type 0 where
   pub bank_fit : bank ≤ bank_count
@@ -454,7 +452,7 @@ module _ (bank : ℕ) (position : ℤ) where
         none_zero = λ z. ⊎_elim
             (λ b. absurd (omega (arith, leb-true 1 bank b)))
             (λ p. zero_facts position p)
-            (or_cases (leb 1 bank) (at 2));
+            (or_cases (leb 1 bank) _ (at 2));
       }
 
   -- an added creditor may have any position within limits

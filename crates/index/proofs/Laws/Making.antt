@@ -1,16 +1,18 @@
 -- An index made from the last row that it covers to the first. To cite: `Linked` with `linked_start`, `linked_row`,
 -- `linked_end`; of what stands in an index `index_slot`, `index_row`, `index_covered`. Assumes nothing.
+use Rattle.std.proofs.Common.{map}
+use Rattle.std.specs.List.{range_with_len}
+use Rattle.std.proofs.lemmas.List.FromFn.{get_or-map-range_with_len, fill_by_all}
 use mathlib.Core.Path.{◌≡◌, refl, sym, ap, ◌∙◌}
-use mathlib.Core.Bool.{true, false}
-use mathlib.Core.List.{List}
+use mathlib.Core.List.{List, ◌∷◌}
 use mathlib.Core.Logic.{◌≢◌}
 use Prim.Native.Nat.{ℕ, zero, suc, ◌+◌, ◌≤◌, ◌<◌}
-use native.Mathlib.Nat.{add-zero, zero-add}
+use native.Mathlib.Nat.{zero-add}
 use native.Mathlib.Omega.{arith}
 use borrow.Author.Tests.{lt-ltb, ltb-true, ltb-false, eqb-true, eqb-false, eq-eqb, ne_eqb}
 use lib.Dec.{eqb, ltb}
 use lib.ListN.{length, get_or, set, replicate, length-set, length-replicate, get_or-replicate}
-use lib.Seq.{get_or-set_same, get_or-set_other, ext_get_or}
+use lib.Seq.{get_or-set_same, get_or-set_other}
 use Rattle.common.proofs.Tests.{either}
 use Rattle.common.proofs.Walk.{first_from_hit, first_from_miss, first_from_end}
 use Rattle.tables.specs.Lookup.{number_at}
@@ -18,26 +20,17 @@ use Rattle.index.specs.Index.{slots, row_limit, slot_of, in_slot, row_from, next
 
 -- ---- a list of values
 
-length_values : (f : ℕ → ℕ) (i n : ℕ) → length (values_from f i n) ≡ n
+values_map : (f : ℕ → ℕ) (i n : ℕ) → values_from f i n ≡ map f (range_with_len i n)
 unfolding values_from
-length_values f i zero = refl
-length_values f i (suc n) = ap suc (length_values f (i + 1) n)
-
-get_d_values : (f : ℕ → ℕ) (i n k : ℕ) → k < n → get_or (values_from f i n) k 0 ≡ f (i + k)
-unfolding values_from
-get_d_values f i zero k h = absurd (omega arith)
-get_d_values f i (suc n) zero h = ap f (sym (add-zero i))
-get_d_values f i (suc n) (suc k) h =
-    let e : i + 1 + k ≡ i + suc k = omega arith in
-    get_d_values f (i + 1) n k (omega arith) ∙ ap f e
+values_map f i zero = refl
+values_map f i (suc n) = ap (λ (l : List ℕ). f i ∷ l) (values_map f (i + 1) n)
 
 values_are : (f : ℕ → ℕ) (n k : ℕ) → k < n → get_or (values_from f 0 n) k 0 ≡ f k
-values_are f n k h = get_d_values f 0 n k h ∙ ap f (zero-add k)
+values_are f n k h = rw values_map (get_or-map-range_with_len f 0 n k k 0 h (zero-add k))
 
 -- a list that has f at each of its places
 is_values : (f : ℕ → ℕ) (n : ℕ) (l : List ℕ) → length l ≡ n → ((k : ℕ) → k < n → get_or l k 0 ≡ f k) → l ≡ values_from f 0 n
-is_values f n l long at =
-    ext_get_or 0 l (values_from f 0 n) (long ∙ sym (length_values f 0 n)) (λ k h. at k (omega arith) ∙ sym (values_are f n k (omega arith)))
+is_values f n l long at = rw values_map (fill_by_all f l n 0 long at)
 
 -- ---- what stands in an index
 
@@ -97,16 +90,10 @@ module _ (cells : List ℕ) (n : ℕ) (few : n ≤ row_limit) where
               λ r lo hi.
               either (eqb r q)
               (λ e. let p = eqb-true r q e in rw p own_row)
-              (λ e. elsewhere r (eqb-false r q e) ∙ l.row r (later r lo (eqb-false r q e)) hi);
-          after = λ r b c. elsewhere r (λ e. omega (arith, l.inside)) ∙ l.after r b c;
+              (λ e. get_or-set_other next q r _ 0 (eqb-false r q e) ∙ l.row r (omega (arith, eqb-false r q e)) hi);
+          after = λ r b c. get_or-set_other next q r _ 0 (λ e. omega (arith, l.inside)) ∙ l.after r b c;
         }
       where
-        later : (r : ℕ) → q ≤ r → r ≢ q → q + 1 ≤ r
-        later r lo ne = let m : ¬ (r ≡ q) = ne in omega arith
-
-        elsewhere : (r : ℕ) → r ≢ q → get_or (set next q (get_or first mine 0)) r 0 ≡ get_or next r 0
-        elsewhere r ne = get_or-set_other next q r (get_or first mine 0) 0 ne
-
         own_row : get_or (set next q (get_or first mine 0)) q 0 ≡ row_from cells n mine (q + 1)
         own_row = get_or-set_same next q (get_or first mine 0) 0 (omega (arith, l.rows_long, l.inside)) ∙ l.slot mine h
 

@@ -7,6 +7,7 @@ use native.Mathlib.Nat.{zero-add}
 use native.Mathlib.Omega.{arith}
 use borrow.Author.Tests.{ltb-false}
 use Rattle.std.proofs.lemmas.Bool.{or_parts}
+use lib.Arith.{le-zero}
 use lib.Dec.{leb, ltb}
 use lib.ListN.{length, take, drop, length-append}
 use lib.Seq.{take-add, drop-nil}
@@ -30,9 +31,6 @@ pub front_length : (x out : List ℕ) → length x ≤ length (pasted 0 x out)
 front_length x out = omega (arith, length-append x (drop (0 + length x) out))
 
 -- ---- the whole input
-
-none_of : (n : ℕ) → ltb 0 n ≡ false → n ≡ 0
-none_of n e = omega (arith, ltb-false 0 n e)
 
 nothing_past : (m : ℕ) → false ≡ ltb 0 (length (drop {A = List ℕ} m [])) || (leb last_number 0 && false)
 nothing_past m = rw (drop-nil {A = List ℕ} m)
@@ -90,7 +88,7 @@ module _ (l₀ l : Ledger) (p : Stage) (text : List ℕ) (a : InputTaken (run_at
 
     module _ (going : p.beyond ≡ false) where
       few : lines_past 0 a.input ≡ 0
-      few = none_of _ (or_parts (ltb 0 (lines_past 0 a.input)) _ (sym a.past_is ∙ going)).0
+      few = le-zero (ltb-false 0 _ (or_parts (ltb 0 (lines_past 0 a.input)) _ (sym a.past_is ∙ going)).0)
 
       lines_are : p.lines ≡ length (answered_lines 0 a.input)
       lines_are =

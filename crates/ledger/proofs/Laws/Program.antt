@@ -1,7 +1,7 @@
 -- Laws of specs/Program. To cite: `begins_opened`, `rows_lent`, `listing_taken`, `room_after`, `shown_after`. Assumes nothing.
 use Rattle.std.proofs.Common.{Ok, Err, Result, IfOk}
 use mathlib.Core.Path.{◌≡◌, refl, sym, ap, subst, ◌∙◌}
-use mathlib.Core.Bool.{Bool, true, false, cond}
+use mathlib.Core.Bool.{Bool, true}
 use mathlib.Core.List.{List, [], ◌++◌}
 use Prim.Native.Nat.{ℕ, ◌+◌, ◌-◌, ◌/◌, ◌≤◌}
 use native.Mathlib.Nat.{le_of_lt}
@@ -11,6 +11,7 @@ use borrow.Author.Rules.{part_to_end}
 use lib.Dec.{leb}
 use lib.ListN.{length, take, drop, replicate, length-replicate, length-drop}
 use lib.Seq.{take-append_seam, length-take-le}
+use Rattle.std.proofs.lemmas.Bool.{cond_both}
 use Rattle.common.proofs.Tests.{and_true}
 use Rattle.digits.specs.Field.{pasted}
 use Rattle.tables.specs.Limits.{stride}
@@ -21,7 +22,7 @@ use Rattle.refusals.specs.Refusals.{answer_number}
 use Rattle.opening.specs.Opening.{open_result, opening}
 use Rattle.model.proofs.Laws.Answers.{query_facts}
 use Rattle.model.proofs.Laws.Opened.{was_opened}
-use Rattle.listing.specs.declared.ending.Ending.{Ending}
+use Rattle.report.specs.declared.layout.Progress.{Progress}
 use Rattle.report.specs.Layout.{answer_length, answer_line}
 use Rattle.listing.specs.Listing.{end_fits, ended, EndTaken, listing_room, listed, Listed}
 use Rattle.run.specs.Run.{Run, run_at, take_text, ends_line, end_bytes, end_output, positions_output}
@@ -56,13 +57,12 @@ rows_lent n = ap (λ (k : ℕ). k / stride) (length-replicate {A = ℕ} n 0)
 -- ---- the end
 
 last_short : (lines partial : ℕ) → length (end_bytes lines partial) ≤ answer_length
-last_short lines partial = by_test (ends_line lines partial)
-  where
-    by_test : (b : Bool) → length (cond b (answer_line (lines + 1) 1) []) ≤ answer_length
-    by_test true = omega (arith, length_answer_line (lines + 1) 1)
-    by_test false = omega arith
+last_short lines partial =
+    cond_both (ends_line lines partial) (answer_line (lines + 1) 1) [] (λ (x : List ℕ). length x ≤ answer_length)
+    (λ _. omega (arith, length_answer_line (lines + 1) 1))
+    (λ _. omega arith)
 
-module _ (l : Ledger) (lines partial : ℕ) (out : List ℕ) (h : LastRoom l out) (e : Result Ending Refusal) (out' : List ℕ) (t : EndTaken lines partial out e out') where
+module _ (l : Ledger) (lines partial : ℕ) (out : List ℕ) (h : LastRoom l out) (e : Result Progress Refusal) (out' : List ℕ) (t : EndTaken lines partial out e out') where
   ends : end_fits out ≡ true
   ends = le-leb answer_length (length out) (omega (arith, h.room))
 
@@ -70,9 +70,9 @@ module _ (l : Ledger) (lines partial : ℕ) (out : List ℕ) (h : LastRoom l out
   end_taken : e ≡ Ok (ended lines partial)
   end_taken = rw ends at t.answer_is
 
-  module _ (end : Ending) (is : e ≡ Ok end) where
+  module _ (end : Progress) (is : e ≡ Ok end) where
     written_is : end.written ≡ length (end_bytes lines partial)
-    written_is = ap (λ (r : Ending). r.written) (let same : end ≡ ended lines partial = cc end_taken in same)
+    written_is = ap (λ (r : Progress). r.written) (let same : end ≡ ended lines partial = cc end_taken in same)
 
     module _ (same : length out' ≡ length out) (r : Result ℕ Refusal) (part : List ℕ) (s : Listed l (take (length out' - end.written) (drop end.written out')) r part) where
       abbrev behind : List ℕ

@@ -1,16 +1,18 @@
 -- Laws of specs/Line. To cite, of fields one after the other: `read_fields_fields_bytes` and `fields_bytes_read_fields` (reading and
 -- writing undo each other); of a line: `narrow_fields` (every limit fits its column). The rest serves the functions of src/line.rt.
 -- Assumes nothing.
+use Rattle.std.specs.List.{AllZip, sum}
+use Rattle.std.proofs.lemmas.List.Sums.{sum_by-cons}
 use Rattle.std.proofs.Common.{Err, None, Option, Some, ℕ}
+use Rattle.std.proofs.lemmas.List.FromFn.{fill_by_all}
 use mathlib.Core.Path.{◌≡◌, refl, sym, ◌∙◌, ap, subst}
 use mathlib.Core.Bool.{Bool, true, ◌&&◌}
 use mathlib.Core.List.{List, [], ◌∷◌, ◌++◌, append_assoc, append-nil}
-use Prim.Native.Nat.{ℕ, zero, suc, ◌+◌, ◌^◌, ◌≤◌, ◌<◌}
-use native.Mathlib.Numerals.{add-one}
+use Prim.Native.Nat.{ℕ, suc, ◌+◌, ◌^◌, ◌≤◌, ◌<◌}
 use native.Mathlib.Omega.{arith}
 use lib.Dec.{leb, ltb}
-use lib.ListN.{length, take, drop, get_or, set, length-append, length-drop, drop_of_length-le}
-use lib.Seq.{drop-cons, take_at, drop_at, drop-drop, take-add, length-take-le}
+use lib.ListN.{length, take, drop, get_or, set, length-append, length-drop}
+use lib.Seq.{take_at, drop_at, drop-drop, take-add, length-take-le}
 use borrow.Author.Tests.{leb-true, ltb-true, ne_eqb}
 use Rattle.common.proofs.Tests.{and_halves}
 use Rattle.calendar.specs.Gregorian.{last_date}
@@ -27,11 +29,6 @@ use Rattle.lines.specs.Line.{widths, line_length, line_end, line_of, read_line, 
 
 -- ---- fields one after the other
 
--- the columns of all the widths
-abbrev pub total : List ℕ → ℕ
-total [] = 0
-total (w ∷ ws) = w + total ws
-
 -- a number for each column, of at most as many digits as the column is wide
 abbrev pub Narrow : List ℕ → List ℕ → Type 0
 Narrow [] [] = Unit {0}
@@ -39,12 +36,12 @@ Narrow [] (v ∷ vs) = ⊥
 Narrow (w ∷ ws) [] = ⊥
 Narrow (w ∷ ws) (v ∷ vs) = (0 < w) × (v < 10 ^ w) × Narrow ws vs
 
-pub length_fields_bytes : (ws vs : List ℕ) → length vs ≡ length ws → length (fields_bytes ws vs) ≡ total ws
+pub length_fields_bytes : (ws vs : List ℕ) → length vs ≡ length ws → length (fields_bytes ws vs) ≡ sum ws
 length_fields_bytes [] vs e = refl
 length_fields_bytes (w ∷ ws) [] e = absurd (omega arith)
 length_fields_bytes (w ∷ ws) (v ∷ vs) e =
     let i = length_fields_bytes ws vs (omega arith) in
-    simp (length-append, length_signed_field w blank v, i)
+    length-append (field_bytes w v) (fields_bytes ws vs) ∙ rw (length_signed_field w blank v, i) (sym (sum_by-cons (λ n. n) w ws))
 
 -- reading fields gives what was written
 pub read_fields_fields_bytes : (ws vs p r : List ℕ) (at : ℕ)
@@ -75,35 +72,29 @@ record Joined (a : Option ℕ) (f : Fields) (vs : List ℕ) : Type 0 where
   whole : value ∷ rest ≡ vs
 
 joined_values : (a : Option ℕ) (f : Fields) (vs : List ℕ) → joined a f ≡ Values vs → Joined a f vs
-joined_values None f vs e = let z : ◌≡◌ {A = ℕ} 0 1 = cc in absurd (omega arith)
-joined_values (Some v) Unreadable vs e = let z : ◌≡◌ {A = ℕ} 0 1 = cc in absurd (omega arith)
+joined_values None f vs e = absurd cc
+joined_values (Some v) Unreadable vs e = absurd cc
 joined_values (Some v) (Values rest) vs e = record { value = v; rest = rest; here = refl; after = refl; whole = cc }
 
 -- writing the fields that were read gives their bytes
 pub fields_bytes_read_fields : (ws : List ℕ) (at : ℕ) (l vs : List ℕ)
-    → at + total ws ≤ length l
+    → at + sum ws ≤ length l
     → read_fields ws at l ≡ Values vs
-    → (length vs ≡ length ws) × (fields_bytes ws vs ≡ take (total ws) (drop at l))
+    → (length vs ≡ length ws) × (fields_bytes ws vs ≡ take (sum ws) (drop at l))
 fields_bytes_read_fields [] at l vs h e = let p : [] ≡ vs = cc in (ap length (sym p), refl)
 fields_bytes_read_fields (w ∷ ws) at l vs h e =
     let j = joined_values (read_field (take w (drop at l))) (read_fields ws (at + w) l) vs e in
+    let s : sum (w ∷ ws) ≡ w + sum ws = sum_by-cons (λ n. n) w ws in
     let i = fields_bytes_read_fields ws (at + w) l j.rest (omega arith) j.after in
     let n : length (take w (drop at l)) ≡ w = length-take-le w (drop at l) (simp length-drop (omega arith)) in
     let b : field_bytes w j.value ≡ take w (drop at l) =
     subst (λ (k : ℕ). field_bytes k j.value ≡ take w (drop at l)) n
     (field_bytes_read_field (take w (drop at l)) j.value j.here) in (
       ap length (sym j.whole) ∙ ap suc i.0,
-      rw (← j.whole, b, i.1, take-add w (total ws) (drop at l), drop-drop w at l),
+      rw (← j.whole, b, i.1, s, take-add w (sum ws) (drop at l), drop-drop w at l),
     )
 
 -- ---- every limit fits its column
-
--- each of the numbers is at most the one beside it
-abbrev AtMost : List ℕ → List ℕ → Type 0
-AtMost [] [] = Unit {0}
-AtMost [] (h ∷ hs) = ⊥
-AtMost (v ∷ vs) [] = ⊥
-AtMost (v ∷ vs) (h ∷ hs) = (v ≤ h) × AtMost vs hs
 
 -- `Narrow` as a test
 abbrev all_narrow : List ℕ → List ℕ → Bool
@@ -111,7 +102,7 @@ all_narrow [] hs = true
 all_narrow (w ∷ ws) [] = true
 all_narrow (w ∷ ws) (h ∷ hs) = ltb 0 w && ltb h (10 ^ w) && all_narrow ws hs
 
-all_narrow_narrow : (ws vs hs : List ℕ) → length ws ≡ length hs → AtMost vs hs → all_narrow ws hs ≡ true → Narrow ws vs
+all_narrow_narrow : (ws vs hs : List ℕ) → length ws ≡ length hs → AllZip (λ v h. v ≤ h) vs hs → all_narrow ws hs ≡ true → Narrow ws vs
 all_narrow_narrow [] [] [] l m t = tt
 all_narrow_narrow [] [] (h ∷ hs) l m t = absurd m
 all_narrow_narrow [] (v ∷ vs) [] l m t = absurd m
@@ -169,20 +160,9 @@ narrow_fields e m =
 
 -- ---- an event and its nine fields
 
--- n entries of a list from i on
-abbrev entries : List ℕ → ℕ → ℕ → List ℕ
-entries vs i zero = []
-entries vs i (suc n) = get_or vs i 0 ∷ entries vs (i + 1) n
-
-entries_drop : (vs : List ℕ) (i n : ℕ) → length vs ≡ i + n → entries vs i n ≡ drop i vs
-entries_drop vs i zero h = sym (drop_of_length-le vs {i = i} (omega arith))
-entries_drop vs i (suc n) h =
-    ap (λ (l : List ℕ). get_or vs i 0 ∷ l) (entries_drop vs (i + 1) n (omega arith) ∙ ap (λ (k : ℕ). drop k vs) (add-one i))
-    ∙ sym (drop-cons vs i 0 (omega arith))
-
 -- nine fields are those of an event
 pub fields_of_event_of : (vs : List ℕ) → length vs ≡ length widths → fields_of (event_of vs) ≡ vs
-fields_of_event_of vs h = entries_drop vs 0 9 h
+fields_of_event_of vs h = sym (fill_by_all (λ (k : ℕ). get_or vs k 0) vs 9 0 h (λ k l. refl))
 
 -- ---- reading a line field by field
 

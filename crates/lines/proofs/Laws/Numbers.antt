@@ -14,7 +14,7 @@ use Rattle.refusals.specs.declared.Refusal.TheVariants.{BadLine, UnfitMemory, Un
 use Rattle.events.specs.declared.Event.{Event}
 use Rattle.events.proofs.Laws.Numbers.{by_limits, limit_number_lem}
 use Rattle.events.specs.Limits.{within, kinds, fields_fit, limit_checks, checked}
-use Rattle.lines.specs.Line.{widths, event_of, columns, line_length, line_end, Fields, Values, Unreadable, read_fields, answer_of, taken, read_line, written_of, write_answer, fields_number, reader_number, writer_number}
+use Rattle.lines.specs.Line.{widths, event_of, columns, line_length, line_end, Fields, Values, Unreadable, read_fields, answer_of, taken, read_line, write_answer, fields_number, reader_number, writer_number}
 
 -- ---- the reader
 
@@ -39,19 +39,13 @@ reader_number_is l = sym (reader_number_lem l)
 
 -- ---- the writer
 
-written : (c : Result Unit Refusal) → answer_number (written_of c) ≡ answer_number c
-written (Ok tt) = refl
-written (Err r) = refl
-
 by_room : (b kind date fields : Bool) → answer_number {A = Unit} (judged (check b (Err UnfitMemory) ∷ check kind (Err UnknownKind) ∷ check date (Err BadDate) ∷ check fields (Err BadField) ∷ []) (Ok tt)) ≡ judged (check b 2 ∷ check kind 3 ∷ check date 4 ∷ check fields 5 ∷ []) 0
 by_room false kind date fields = refl
 by_room true kind date fields = by_limits kind date fields
 
 pub writer_number_lem : (e : Event) (out : List ℕ) → answer_number (write_answer e out) ≡ writer_number e out
 unfolding write_answer writer_number
-writer_number_lem e out =
-    written (judged (check (leb line_length (length out)) (Err UnfitMemory) ∷ limit_checks e) (Ok tt))
-    ∙ by_room (leb line_length (length out)) (within kinds e.kind) (in_range e.date) (fields_fit e)
+writer_number_lem e out = by_room (leb line_length (length out)) (within kinds e.kind) (in_range e.date) (fields_fit e)
 
 pub writer_number_is : (e : Event) (out : List ℕ) → writer_number e out ≡ answer_number (write_answer e out)
 writer_number_is e out = sym (writer_number_lem e out)

@@ -9,6 +9,7 @@ use lib.Dec.{leb, eqb}
 use lib.ListN.{length, take, drop, get_or, length-append, take-append-drop, drop_of_length-le}
 use lib.Seq.{drop-cons, take_at, get_or_at}
 use borrow.Author.Tests.{le-leb, eqb-true, eq-eqb}
+use Rattle.common.proofs.Checks.{check_passes}
 use Rattle.common.proofs.Tests.{and_halves, and_true}
 use Rattle.calendar.specs.Gregorian.{in_range}
 use Rattle.refusals.specs.declared.Refusal.{Refusal}
@@ -16,7 +17,7 @@ use Rattle.refusals.specs.Refusals.{answer_number}
 use Rattle.refusals.specs.declared.Refusal.TheVariants.{BadLine, UnfitMemory, UnknownKind, BadDate, BadField}
 use Rattle.events.specs.declared.Event.{Event}
 use Rattle.events.specs.Limits.{within, kinds, fields_fit, checked}
-use Rattle.lines.specs.Line.{widths, fields_of, event_of, columns, line_length, line_end, fields_bytes, line_of, Fields, Values, Unreadable, read_fields, answer_of, taken, read_line, write_answer, bytes_after, written_of}
+use Rattle.lines.specs.Line.{widths, fields_of, event_of, columns, line_length, line_end, fields_bytes, line_of, Fields, Values, Unreadable, read_fields, answer_of, taken, read_line, write_answer, bytes_after}
 use Rattle.common.specs.Tests.{among}
 use Rattle.lines.specs.Promises.{LineHasItsLength, ReadsWhatWasWritten, WritesWhatWasRead, OnlyWithinIsTaken, EveryEventHasALine, NoEventHasTwoLines, NoLineHasTwoEvents, ReaderAnswers, WriterAnswers}
 use Rattle.events.proofs.Laws.Limits.{checked_facts}
@@ -49,15 +50,9 @@ record Read (l : List ℕ) (e : Event) : Type 0 where
   event : event_of values ≡ e
   within : checked e ≡ (Ok tt)
 
-cond_taken : (b : Bool) (x : Result Event Refusal) (e : Event)
-    → cond b x (Err BadLine) ≡ Ok e
-    → (b ≡ true) × (x ≡ Ok e)
-cond_taken true x e t = (refl, t)
-cond_taken false x e t = let z : ◌≡◌ {A = ℕ} 0 1 = cc in absurd (omega arith)
-
 answer_of_taken : (f e : Event) (c : Result Unit Refusal) → answer_of f c ≡ Ok e → (c ≡ (Ok tt)) × (f ≡ e)
 answer_of_taken f e (Ok tt) t = (refl, cc)
-answer_of_taken f e (Err r) t = let z : ◌≡◌ {A = ℕ} 0 1 = cc in absurd (omega arith)
+answer_of_taken f e (Err r) t = absurd cc
 
 record Held (f : Fields) (e : Event) : Type 0 where
   values : List ℕ
@@ -66,7 +61,7 @@ record Held (f : Fields) (e : Event) : Type 0 where
   within : checked e ≡ (Ok tt)
 
 taken_held : (f : Fields) (e : Event) → taken f ≡ Ok e → Held f e
-taken_held Unreadable e t = let z : ◌≡◌ {A = ℕ} 0 1 = cc in absurd (omega arith)
+taken_held Unreadable e t = absurd cc
 taken_held (Values vs) e t =
     let p = answer_of_taken (event_of vs) e (checked (event_of vs)) t in
     record { values = vs; fields = refl; event = p.1; within = ap checked (sym p.1) ∙ p.0 }
@@ -74,7 +69,7 @@ taken_held (Values vs) e t =
 read_facts : (l : List ℕ) (e : Event) → read_line l ≡ Ok e → Read l e
 unfolding read_line
 read_facts l e t =
-    let p = cond_taken (eqb (length l) line_length && eqb (get_or l columns 0) line_end) _ e t in
+    let p = check_passes (eqb (length l) line_length && eqb (get_or l columns 0) line_end) _ (Err BadLine) refl t in
     let q = and_halves (eqb (length l) line_length) p.0 in
     let f = taken_held (read_fields widths 0 l) e p.1 in
     record {
@@ -154,11 +149,10 @@ reader_answers l = line_number_lem (eqb (length l) line_length && eqb (get_or l 
 
 write_number_lem : (room kind date field : Bool)
     → among (0 ∷ 2 ∷ 3 ∷ 4 ∷ 5 ∷ [])
-    (answer_number
-    (written_of
+    (answer_number {A = Unit}
     (cond room
     (cond kind (cond date (cond field (Ok tt) (Err BadField)) (Err BadDate)) (Err UnknownKind))
-    (Err UnfitMemory))))
+    (Err UnfitMemory)))
     ≡ true
 write_number_lem false kind date field = refl
 write_number_lem true false date field = refl

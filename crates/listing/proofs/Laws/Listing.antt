@@ -8,7 +8,7 @@ use native.Mathlib.Nat.{zero-add}
 use native.Mathlib.Numerals.{add-one}
 use native.Mathlib.Omega.{arith}
 use borrow.Author.Tests.{leb-true, le-leb, ltb-true, ltb-false}
-use lib.Dec.{leb, ltb}
+use lib.Dec.{leb, ltb, lit≤}
 use lib.IntN.{ℤ, pos, nat_abs}
 use lib.ListN.{length, get_or, length-append, get_or-eq_default}
 use mir.Syntax.{w64}
@@ -24,7 +24,9 @@ use Rattle.tables.specs.Limits.{creditor_count, debtor_count, bank_count}
 use Rattle.tables.specs.Ledger.{Ledger}
 use Rattle.fitness.specs.Fitness.{fit, position_fit}
 use Rattle.fitness.proofs.Laws.Fitness.{Fit, fit_facts, position_facts, compensation_facts, creditors_fit_at, positions_fit_at}
-use Rattle.model.specs.Step.{figure_of}
+use Rattle.model.specs.declared.Figure.{Figure}
+use Rattle.model.specs.declared.Figure.TheVariants.{Creditor, Debtor, Bank, Compensation}
+use Rattle.model.specs.Step.{kind_of, figure_of}
 use Rattle.report.specs.Layout.{position_line, position_length, widest_kind, last_number, position_fits}
 use Rattle.listing.specs.Listing.{table_output, listing_room, listed, Listed}
 use Rattle.run.specs.Run.{position_output, kind_output, positions_output}
@@ -66,18 +68,27 @@ module _ (at kind number : ℕ) (cents : ℤ) (out : List ℕ) where
 
 -- ---- a table written number by number
 
--- there is room for all of its lines, and each can be written
-abbrev pub Ready : ℕ → ℕ → List ℤ → List ℕ → Type 0
-Ready at kind positions out =
+-- the kind of a figure fits its columns
+kind_fits : (figure : Figure) → kind_of figure ≤ widest_kind
+kind_fits Creditor = lit≤ tt
+kind_fits Debtor = lit≤ tt
+kind_fits Bank = lit≤ tt
+kind_fits Compensation = lit≤ tt
+
+-- there is room for all lines of a table, and each can be written
+abbrev pub Ready : ℕ → List ℤ → List ℕ → Type 0
+Ready at positions out =
     (at + length positions * position_length ≤ length out)
-    × (kind ≤ widest_kind)
     × (length positions ≤ last_number)
     × InLimit position_limit positions
 
 pub table_start : (at kind : ℕ) (positions : List ℤ) (out : List ℕ) → Written at out (table_output kind positions 0) at out
 table_start at kind positions out = rw (figures_output_none kind (position positions)) (written_none at out)
 
-module _ (at kind : ℕ) (positions : List ℤ) (out : List ℕ) (ready : Ready at kind positions out) where
+module _ (at : ℕ) (figure : Figure) (positions : List ℤ) (out : List ℕ) (ready : Ready at positions out) where
+  abbrev kind : ℕ
+  kind = kind_of figure
+
   table_inside : (i : ℕ) → i ≤ length positions → at + length (table_output kind positions i) ≤ length out
   table_inside i h = omega (arith, length_figures_output kind (position positions) i, ready.0)
 
@@ -88,7 +99,7 @@ module _ (at kind : ℕ) (positions : List ℤ) (out : List ℕ) (ready : Ready 
 
     cents_back : cents ≡ get_or positions i (pos 0)
     unfolding position
-    cents_back = bits_back (get_or positions i (pos 0)) (omega (arith, ready.3 (suc i)))
+    cents_back = bits_back (get_or positions i (pos 0)) (omega (arith, ready.2 (suc i)))
 
     pub table_fits : position_fits next kind (i + 1) cents now ≡ true
     unfolding position
@@ -102,7 +113,7 @@ module _ (at kind : ℕ) (positions : List ℤ) (out : List ℕ) (ready : Ready 
           written_length at out (table_output kind positions i) next now w (table_inside i (omega arith)),
         ) in
         rw cents_back
-        (position_fits_made next kind (i + 1) (get_or positions i (pos 0)) now room ready.1 (omega (arith, ready.2)) (ready.3 (suc i)))
+        (position_fits_made next kind (i + 1) (get_or positions i (pos 0)) now room (kind_fits figure) (omega (arith, ready.1)) (ready.2 (suc i)))
 
     pub table_more : (r : ℕ) (last : List ℕ)
         → r ≡ next + length (position_output kind (i + 1) cents)
@@ -202,10 +213,9 @@ module _ (l : Ledger) (out : List ℕ) where
           banks_size,
         )
 
-    pub creditors_ready : Ready 0 1 l.creditor_positions out
+    pub creditors_ready : Ready 0 l.creditor_positions out
     creditors_ready = (
       omega (arith, creditors_size, listing_room_lem),
-      omega arith,
       omega (arith, creditors_size),
       table_within l.creditor_positions
           (λ i k.
@@ -240,10 +250,9 @@ module _ (l : Ledger) (out : List ℕ) where
       first : Written 0 out (first_kind l) d one
       first = record { place = p; bytes = q }
 
-      pub debtors_ready : Ready d 2 l.debtor_positions one
+      pub debtors_ready : Ready d l.debtor_positions one
       debtors_ready = (
         omega (arith, debtors_size, listing_room_lem, first_length, p, written_length 0 out (first_kind l) d one first first_inside),
-        omega arith,
         omega (arith, debtors_size),
         table_within l.debtor_positions (positions_fit_at l.debtor_positions listing_fit.debtors),
       )
@@ -253,10 +262,9 @@ module _ (l : Ledger) (out : List ℕ) where
         second : Written 0 out (two_kinds l) b two
         second = written_more 0 out (first_kind l) d one first first_inside _ two b r s
 
-        pub banks_ready : Ready b 3 l.bank_positions two
+        pub banks_ready : Ready b l.bank_positions two
         banks_ready = (
           omega (arith, banks_size, listing_room_lem, two_length, second.place, written_length 0 out (two_kinds l) b two second two_inside),
-          omega arith,
           omega (arith, banks_size),
           table_within l.bank_positions (positions_fit_at l.bank_positions listing_fit.banks),
         )

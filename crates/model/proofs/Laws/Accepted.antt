@@ -5,7 +5,7 @@ use Rattle.std.proofs.Common.{Err, Ok, Result}
 use mathlib.Core.Path.{◌≡◌, refl, subst}
 use mathlib.Core.Bool.{Bool, true, false}
 use Prim.Native.Nat.{ℕ}
-use Rattle.common.proofs.Tests.{never, and_halves}
+use Rattle.common.proofs.Tests.{and_halves}
 use Rattle.common.proofs.Checks.{check_passes}
 use Rattle.refusals.specs.declared.Refusal.{Refusal}
 use Rattle.refusals.specs.declared.Refusal.TheVariants.{UnfitMemory}
@@ -65,25 +65,25 @@ after_cases P l e changed same = by_answer (answer l e) refl
     by_answer (Err r) i = same
 
 pub was_accepted : (l : Ledger) (e : Event) → is_accepted (answer l e) ≡ true → Accepts l e
-was_accepted l e = after_cases (λ b x. b ≡ true → Accepts l e) l e (λ a i. a) (λ i. absurd (never i refl))
+was_accepted l e = after_cases (λ b x. b ≡ true → Accepts l e) l e (λ a i. a) (λ i. absurd cc)
 
 -- ---- the state that a treatment finds
 
 pub is_presented_lem : (s : State) → is_presented s ≡ true → s ≡ Presented
 is_presented_lem Presented e = refl
-is_presented_lem Rejected e = absurd (never e refl)
-is_presented_lem (Settled day) e = absurd (never e refl)
-is_presented_lem (Undone day by) e = absurd (never e refl)
+is_presented_lem Rejected e = absurd cc
+is_presented_lem (Settled day) e = absurd cc
+is_presented_lem (Undone day by) e = absurd cc
 
 pub record IsSettled (s : State) : Type 0 where
   pub day : ℕ
   pub is : s ≡ Settled day
 
 pub is_settled_lem : (s : State) → is_settled s ≡ true → IsSettled s
-is_settled_lem Presented e = absurd (never e refl)
-is_settled_lem Rejected e = absurd (never e refl)
+is_settled_lem Presented e = absurd cc
+is_settled_lem Rejected e = absurd cc
 is_settled_lem (Settled day) e = record { day = day; is = refl }
-is_settled_lem (Undone day by) e = absurd (never e refl)
+is_settled_lem (Undone day by) e = absurd cc
 
 module _ (l : Ledger) (n date : ℕ) (h : CollectionThere l n) where
   pub state_found : (t : Treatment) → Passed l date (Treat n t) → state_fits t h.collection.state ≡ true

@@ -3,7 +3,7 @@ use mathlib.Core.Path.{◌≡◌}
 use mathlib.Core.Bool.{cond}
 use lib.Dec.{eqb}
 use Rattle.events.specs.declared.Event.{Event}
-use Rattle.model.specs.Actions.{new_mandate, presentation, action_of}
+use Rattle.model.specs.Actions.{new_mandate, presentation, authorisation, action_of}
 use Rattle.model.specs.declared.Action.TheVariants.{AddCreditor, AddMandate, ChangeMandate, Collect, Treat}
 use Rattle.model.specs.declared.Change.TheVariants.{NewBank, NewCreditor, Cancel}
 use Rattle.model.specs.declared.Treatment.TheVariants.{Settle, Reject, Undo}
@@ -42,7 +42,7 @@ module _ (e : Event) where
   unfolding action_of
   action_return h = rw h
 
-  pub action_refund : e.kind ≡ 9 → action_of e ≡ Treat e.a (Undo (ByRefund e.b e.code))
+  pub action_refund : e.kind ≡ 9 → action_of e ≡ Treat e.a (Undo (ByRefund e.b (authorisation e.code)))
   unfolding action_of
   action_refund h = rw h
 

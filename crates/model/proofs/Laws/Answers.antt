@@ -9,7 +9,8 @@ use native.Mathlib.Omega.{arith}
 use borrow.Author.Tests.{ne_eqb}
 use lib.Dec.{eqb}
 use lib.IntN.{ℤ, pos}
-use Rattle.common.proofs.Tests.{and_halves}
+use Rattle.std.proofs.lemmas.Bool.{cond_both}
+use Rattle.common.proofs.Tests.{and_halves, either}
 use Rattle.common.proofs.Checks.{check_passes}
 use Rattle.refusals.specs.declared.Refusal.{Refusal}
 use Rattle.refusals.specs.Refusals.{number_of}
@@ -23,7 +24,7 @@ use Rattle.common.specs.Tests.{among}
 use Rattle.events.proofs.Laws.Limits.{checked_kind, checked_date, checked_field, checked_within}
 use Rattle.tables.specs.Ledger.{Ledger}
 use Rattle.fitness.specs.Fitness.{sizes_fit, fit}
-use Rattle.opening.specs.Opening.{OpenResult, opening}
+use Rattle.opening.specs.Opening.{OpenResult}
 use Rattle.opening.proofs.Laws.Opening.{opening_done, opening_refused}
 use Rattle.model.specs.Actions.{action_of}
 use Rattle.model.specs.Checks.{checks, ruled}
@@ -41,13 +42,9 @@ abbrev all_among : List ℕ → List (Check ℕ) → Bool
 all_among ns [] = true
 all_among ns (c ∷ cs) = among ns c.failing && all_among ns cs
 
-first_number : {A : Type 0} (f : A → ℕ) (b : Bool) (x y : A) (n : ℕ) → f x ≡ n → f (cond b x y) ≡ cond b n (f y)
-first_number f true x y n e = e
-first_number f false x y n e = refl
-
 judged_number : {A : Type 0} (f : A → ℕ) (cs : List (Check A)) (a : A) → f (judged cs a) ≡ judged (numbered f cs) (f a)
 judged_number f [] a = refl
-judged_number f (c ∷ cs) a = first_number f c.passes (judged cs a) c.failing (judged (numbered f cs) (f a)) (judged_number f cs a)
+judged_number f (c ∷ cs) a = either c.passes (λ p. rw p (judged_number f cs a)) (λ p. rw p)
 
 -- ---- an event
 
@@ -63,21 +60,18 @@ module _ (l : Ledger) (e : Event) where
 
   -- 3 to 5 come first
   limits_number : (a : Result Unit Refusal) → answer_number (then_ruled (checked e) a) ≡ cond (within kinds e.kind) (cond (in_range e.date) (cond (fields_fit e) (answer_number a) 5) 4) 3
-  limits_number a = by_tests (within kinds e.kind) (in_range e.date) (fields_fit e) refl refl refl
-    where
-      by_tests : (kind date fields : Bool) → within kinds e.kind ≡ kind → in_range e.date ≡ date → fields_fit e ≡ fields → answer_number (then_ruled (checked e) a) ≡ cond kind (cond date (cond fields (answer_number a) 5) 4) 3
-      by_tests false date fields k d f = rw (checked_kind e k)
-      by_tests true false fields k d f = rw (checked_date e k d)
-      by_tests true true false k d f = rw (checked_field e k d f)
-      by_tests true true true k d f = rw (checked_within e k d f)
+  limits_number a =
+      either (within kinds e.kind)
+      (λ k.
+      either (in_range e.date)
+      (λ d.
+      either (fields_fit e) (λ f. rw (checked_within e k d f, k, d, f)) (λ f. rw (checked_field e k d f, k, d, f)))
+      (λ d. rw (checked_date e k d, k, d)))
+      (λ k. rw (checked_kind e k, k))
 
   fit_number_lem : answer_number (answer l e) ≡ cond (fit l) (answer_number (then_ruled (checked e) (ruled l e.date (action_of e)))) 2
   unfolding answer
-  fit_number_lem = by_test (fit l)
-    where
-      by_test : (b : Bool) → answer_number (cond b (then_ruled (checked e) (ruled l e.date (action_of e))) (Err UnfitMemory)) ≡ cond b (answer_number (then_ruled (checked e) (ruled l e.date (action_of e)))) 2
-      by_test true = refl
-      by_test false = refl
+  fit_number_lem = either (fit l) (λ f. rw f) (λ f. rw f)
 
 pub event_numbers : EventNumbers
 unfolding event_number
@@ -92,11 +86,7 @@ judged_among : (ns : List ℕ) (cs : List (Check ℕ)) → all_among ns cs ≡ t
 judged_among ns [] h z = z
 judged_among ns (c ∷ cs) h z =
     let q = and_halves (among ns c.failing) h in
-    by_test c.passes (judged_among ns cs q.1 z) q.0
-  where
-    by_test : (b : Bool) → among ns (judged cs 0) ≡ true → among ns c.failing ≡ true → among ns (cond b (judged cs 0) c.failing) ≡ true
-    by_test true x y = x
-    by_test false x y = y
+    cond_both c.passes (judged cs 0) c.failing (λ n. among ns n ≡ true) (λ p. judged_among ns cs q.1 z) (λ p. q.0)
 
 pub event_answers : EventAnswers
 unfolding event_number
@@ -132,8 +122,7 @@ query_answers l kind number =
     }
 
 pub opening_answers : OpeningAnswers
-opening_answers l = by_sizes (sizes_fit l) refl
-  where
-    by_sizes : (b : Bool) → sizes_fit l ≡ b → (opening l).number ≡ cond b 0 2
-    by_sizes true h = ap (λ (o : OpenResult). o.number) (opening_done l h)
-    by_sizes false h = ap (λ (o : OpenResult). o.number) (opening_refused l h)
+opening_answers l =
+    either (sizes_fit l)
+    (λ h. rw h (ap (λ (o : OpenResult). o.number) (opening_done l h)))
+    (λ h. rw h (ap (λ (o : OpenResult). o.number) (opening_refused l h)))

@@ -1,13 +1,14 @@
 -- Of each collection as much was accepted as its state says, and every event keeps it so. A count t gives, for a sort of treatment and a
 -- collection, how many were accepted. To cite: `Counted`, `counted_run`, `count_le`. Assumes nothing.
 use mathlib.Core.Path.{◌≡◌, refl, sym, ap, ◌∙◌}
-use mathlib.Core.Bool.{Bool, true, false, cond, ◌&&◌}
+use mathlib.Core.Bool.{Bool, true, cond, ◌&&◌}
 use mathlib.Core.List.{List, [], ◌∷◌}
 use Prim.Native.Nat.{ℕ, ◌+◌, ◌≤◌, ◌<◌}
 use native.Mathlib.Nat.{add-zero}
 use native.Mathlib.Omega.{arith}
 use lib.Dec.{eqb}
 use borrow.Author.Tests.{ltb-true, eqb-true, eqb-false, eq-eqb, ne_eqb}
+use Rattle.std.proofs.lemmas.Bool.{cond_both}
 use Rattle.common.proofs.Tests.{either, not_true, and_halves}
 use Rattle.events.specs.declared.Event.{Event}
 use Rattle.common.specs.Tests.{among}
@@ -96,11 +97,7 @@ module _ (l : Ledger) (t t' : Sort → ℕ → ℕ) (date : ℕ) (g : Counted l 
   counted_collect p h r u n sort c =
       let k = new_collection l.creditors p h.mandate in
       rw (effect_collect l date p h, collection_of_add (keep_mandate (dated l date) h.row (presented_on p h.mandate)) k r u c)
-      (n sort c ∙ add-zero _ ∙ g sort c ∙ by_test (eqb c p.collection) refl)
-    where
-      by_test : (b : Bool) → eqb c p.collection ≡ b → count_known sort (collection_of l c) ≡ count_known sort (cond b (known (new_collection l.creditors p h.mandate)) (collection_of l c))
-      by_test true q = rw (eqb-true c p.collection q, u) (sym (none_presented sort))
-      by_test false q = refl
+      (n sort c ∙ add-zero _ ∙ g sort c ∙ cond_both (eqb c p.collection) (known k) (collection_of l c) (λ x. count_known sort (collection_of l c) ≡ count_known sort x) (λ q. rw (eqb-true c p.collection q, u) (sym (none_presented sort))) (λ q. refl))
 
   -- a posting does not change the rows
   posted_same : (m : Ledger) (tr : Treatment) (k : Collection) (c : ℕ) → collection_of (post_treated m tr date k) c ≡ collection_of m c

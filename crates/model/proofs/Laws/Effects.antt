@@ -7,7 +7,6 @@ use mathlib.Core.Path.{◌≡◌, refl, sym, ap, ◌∙◌}
 use mathlib.Core.Bool.{Bool, true, false, cond}
 use Prim.Native.Nat.{ℕ, ◌<◌}
 use lib.Dec.{eqb}
-use Rattle.common.proofs.Tests.{never}
 use Rattle.positions.specs.Positions.{HasEntry}
 use Rattle.tables.specs.Ledger.{Ledger}
 use Rattle.tables.specs.Lookup.{lookup}
@@ -34,12 +33,12 @@ pub record IsKnown {A : Type 0} (x : Known A) : Type 0 where
   pub is : x ≡ known value
 
 pub is_known_lem : {A : Type 0} (x : Known A) → is_known x ≡ true → IsKnown x
-is_known_lem unknown e = absurd (never e refl)
+is_known_lem unknown e = absurd cc
 is_known_lem (known a) e = record { value = a; is = refl }
 
 pub not_known : {A : Type 0} (x : Known A) → is_known x ≡ false → x ≡ unknown
 not_known unknown e = refl
-not_known (known a) e = absurd (never refl e)
+not_known (known a) e = absurd cc
 
 -- the test of what is known
 pub of_known_lem : {A : Type 0} {x : Known A} {a : A} (f : A → Bool) → x ≡ known a → of_known x f ≡ true → f a ≡ true

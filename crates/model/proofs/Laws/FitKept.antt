@@ -285,7 +285,7 @@ module _ (l : Ledger) (f : fit l ≡ true) (date : ℕ) (range : in_range date �
   state_fits_lem Settle = day_fits (le-leb date date (omega arith))
   state_fits_lem Reject = refl
   state_fits_lem (Undo ByReturn) = day_fits (le-leb date date (omega arith))
-  state_fits_lem (Undo (ByRefund rate code)) = day_fits (le-leb date date (omega arith))
+  state_fits_lem (Undo (ByRefund rate authorisation)) = day_fits (le-leb date date (omega arith))
   state_fits_lem (Undo ByReversal) = day_fits (le-leb date date (omega arith))
 
   treated_fits : (tr : Treatment) (k : Collection) → CollectionFit l.latest l.creditors k → CollectionFit date l.creditors (treated tr date k)

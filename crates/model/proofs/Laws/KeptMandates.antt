@@ -1,7 +1,7 @@
 -- Events 1 to 5 keep a ledger and a journal in agreement, from whatever base the figures are counted.
 -- To cite: `agrees_creditor`, `agrees_mandate`, `agrees_change`, `agrees_collect`. Assumes nothing.
 use mathlib.Core.Path.{◌≡◌, refl, sym, ap, ◌∙◌}
-use mathlib.Core.Bool.{Bool, true, false, cond}
+use mathlib.Core.Bool.{false, cond}
 use mathlib.Core.List.{List}
 use Prim.Native.Nat.{ℕ, ◌-◌, ◌≤◌, ◌<◌}
 use native.Mathlib.Omega.{arith}
@@ -70,11 +70,7 @@ module _ (base l : Ledger) (j : Journal) (date : ℕ) (g : Agrees base l j) wher
 
   -- a mandate anew, where the journal has the others as they are noted
   noted_anew_lem : (m : Mandate) (x : NotedMandate) → noted_of m ≡ x → (n k : ℕ) → noted_known (cond (eqb k n) (known m) (mandate_of l k)) ≡ noted j.mandates n (known x) k
-  noted_anew_lem m x e n k = by_test (eqb k n)
-    where
-      by_test : (b : Bool) → noted_known (cond b (known m) (mandate_of l k)) ≡ cond b (known x) (j.mandates k)
-      by_test true = ap known e
-      by_test false = g.mandates k
+  noted_anew_lem m x e n k = either (eqb k n) (λ b. rw b (ap known e)) (λ b. rw b (g.mandates k))
 
   pub agrees_mandate : (m : Mandate) → l.mandates_used < rows l.mandates → mandate_of l m.number ≡ unknown → Agrees base (effect l date (AddMandate m)) (note_of j date (AddMandate m))
   unfolding effect note_of mandate_of collection_of

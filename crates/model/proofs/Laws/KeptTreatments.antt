@@ -1,13 +1,13 @@
 -- Events 6 to 10 keep a ledger and a journal in agreement, from whatever base the figures are counted.
 -- To cite: `agrees_settle`, `agrees_reject`, `agrees_undo`. Assumes nothing.
 use mathlib.Core.Path.{◌≡◌, refl, sym, ap, subst, ◌∙◌}
-use mathlib.Core.Bool.{Bool, true, false, cond}
 use mathlib.Core.Logic.{◌≢◌}
 use mathlib.Core.List.{List}
 use Prim.Native.Nat.{ℕ}
 use lib.Dec.{eqb}
 use lib.IntN.{ℤ, ◌+ℤ◌, +ℤ_assoc}
 use borrow.Author.Tests.{eqb-true, eqb-false, eq-eqb, ne_eqb}
+use Rattle.std.proofs.lemmas.Bool.{cond_both}
 use Rattle.common.proofs.Tests.{either}
 use Rattle.positions.specs.declared.Postings.{Postings}
 use Rattle.positions.specs.Postings.{settlement}
@@ -57,11 +57,7 @@ module _ (base l : Ledger) (j : Journal) (date : ℕ) (g : Agrees base l j) (z :
   same_kept tr x' y s e o c =
       let k' = treated tr date h.collection in
       subst (λ (w : Known Collection). SameKnown w (y c)) (sym (collections_kept l date n h k' (treated_number tr date h.collection ∙ h.number) c))
-      (by_test (eqb c n) refl)
-    where
-      by_test : (b : Bool) → eqb c n ≡ b → SameKnown (cond b (known (treated tr date h.collection)) (collection_of l c)) (y c)
-      by_test true b = rw (eqb-true c n b, e) s
-      by_test false b = rw (o c (eqb-false c n b)) (g.collections c)
+      (cond_both (eqb c n) (known k') (collection_of l c) (λ x. SameKnown x (y c)) (λ b. rw (eqb-true c n b, e) s) (λ b. rw (o c (eqb-false c n b)) (g.collections c)))
 
   -- the collection with its new state is noted as it was, where the new state is not settled, or S is noted
   same_treated : (tr : Treatment) (x : NotedCollection) (settled : ℕ) → SameCollection h.collection x → ((s : ℕ) → state_after tr date ≡ Settled s → settled ≡ s) → SameCollection (treated tr date h.collection) (noted_settled x settled)

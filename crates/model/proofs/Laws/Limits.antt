@@ -1,13 +1,14 @@
 -- The limits of specs/Deadlines are dates, from every date in range. To cite: `passed_limit`, `at_most_limit` (a test that passed names its limit),
 -- `last_day_found`, `last_day_return`, `last_day_refund`, `last_day_reversal`, `lapse_found`, `kept_found`, `timing`. Assumes nothing.
+use Rattle.std.proofs.lemmas.Bool.{cond_both}
 use Rattle.std.proofs.Common.{Option, Some, ℕ}
-use mathlib.Core.Path.{◌≡◌, refl, ap, ◌∙◌}
-use mathlib.Core.Bool.{Bool, true, false, cond, not}
+use mathlib.Core.Path.{◌≡◌, ap, ◌∙◌}
+use mathlib.Core.Bool.{true, false, cond, not}
 use Prim.Native.Nat.{ℕ, ◌≤◌}
 use native.Mathlib.Omega.{arith}
 use lib.Dec.{eqb}
 use borrow.Author.Tests.{ltb-false, le-ltb}
-use Rattle.common.proofs.Tests.{not_true, and_halves}
+use Rattle.common.proofs.Tests.{either, not_true, and_halves}
 use Rattle.calendar.specs.Gregorian.{is_date, in_range}
 use Rattle.calendar.specs.DayNumber.{day_number, date_at}
 use Rattle.calendar.specs.Target.{last_business_day_before}
@@ -24,6 +25,8 @@ use Rattle.calendar.proofs.Laws.Promises.{kept_due_lem}
 use Rattle.fitness.specs.Fitness.{none_or_date}
 use Rattle.model.specs.declared.Way.{Way}
 use Rattle.model.specs.declared.Way.TheVariants.{ByReturn, ByRefund, ByReversal}
+use Rattle.model.specs.declared.Authorisation.TheVariants.{Authorised, Unauthorised}
+use Rattle.model.specs.Actions.{authorisation}
 use Rattle.model.specs.Deadlines.{core, period_of, kept_due, timely, last_day, lapse_end}
 use Rattle.model.specs.Promises.{last_day_from, NotAfter, Timing}
 
@@ -40,16 +43,12 @@ passes x a n = rw (n.is, le-ltb n.last x n.not_after)
 
 -- ---- last days
 
-refund_longest : (b : Bool) → longest (cond b core.authorised core.unauthorised) ≤ 453
-unfolding longest
-refund_longest true = omega arith
-refund_longest false = omega arith
-
 -- every last day is within 453 days
 pub longest_way : (way : Way) → longest (period_of core way) ≤ 453
 unfolding longest
 longest_way ByReturn = omega arith
-longest_way (ByRefund rate code) = refund_longest (eqb code 0)
+longest_way (ByRefund rate Authorised) = omega arith
+longest_way (ByRefund rate Unauthorised) = omega arith
 longest_way ByReversal = omega arith
 
 pub last_day_found : (way : Way) (settled : ℕ) → in_range settled ≡ true → DateAfter settled (last_day way settled) (longest (period_of core way))
@@ -82,13 +81,12 @@ module _ (settled code : ℕ) (r : in_range settled ≡ true) where
   unfolding last_day
   last_day_return = rw (period_end_steps (period_of core ByReturn) settled, no_months settled r, no_days settled r)
 
-  pub last_day_refund : (rate : ℕ) → last_day (ByRefund rate code) settled ≡ last_day_from 9 code settled
+  pub last_day_refund : (rate : ℕ) → last_day (ByRefund rate (authorisation code)) settled ≡ last_day_from 9 code settled
   unfolding last_day
-  last_day_refund rate = by_code (eqb code 0) refl
-    where
-      by_code : (b : Bool) → eqb code 0 ≡ b → last_day (ByRefund rate code) settled ≡ last_day_from 9 code settled
-      by_code true e = rw (e, period_end_steps core.authorised settled, no_months settled r)
-      by_code false e = rw (e, period_end_steps core.unauthorised settled)
+  last_day_refund rate =
+      either (eqb code 0)
+      (λ e. rw (e, period_end_steps core.authorised settled, no_months settled r))
+      (λ e. rw (e, period_end_steps core.unauthorised settled))
 
   pub last_day_reversal : last_day ByReversal settled ≡ last_day_from 10 code settled
   unfolding last_day
@@ -98,11 +96,7 @@ module _ (settled code : ℕ) (r : in_range settled ≡ true) where
 
 -- the date that the 36 months are counted from
 counted_from : (presented signed : ℕ) → none_or_date presented ≡ true → in_range signed ≡ true → in_range (cond (eqb presented 0) signed presented) ≡ true
-counted_from presented signed p s = by_test (eqb presented 0) refl
-  where
-    by_test : (b : Bool) → eqb presented 0 ≡ b → in_range (cond b signed presented) ≡ true
-    by_test true e = s
-    by_test false e = rw e at p
+counted_from presented signed p s = cond_both (eqb presented 0) signed presented (λ x. in_range x ≡ true) (λ e. s) (λ e. rw e at p)
 
 months_found : (x : ℕ) → in_range x ≡ true → DateAfter x (months_after (record { 0 = 36 }) x) 1116
 months_found x r =

@@ -57,7 +57,7 @@ pub record SoundPresentation (p : Presentation) : Type 0 where
 -- a rate of at most 9,999
 abbrev pub SoundWay : Way → Type 0
 SoundWay ByReturn = Unit {0}
-SoundWay (ByRefund rate code) = rate ≤ 9999
+SoundWay (ByRefund rate authorisation) = rate ≤ 9999
 SoundWay ByReversal = Unit {0}
 
 abbrev pub SoundTreatment : Treatment → Type 0

@@ -5,13 +5,14 @@ use Rattle.std.proofs.Common.{None, Ok, Option, ℕ}
 use mathlib.Core.Path.{◌≡◌, refl, sym, ap, subst, ◌∙◌}
 use mathlib.Core.Bool.{true, not, ◌&&◌}
 use mathlib.Core.List.{List}
-use Prim.Native.Nat.{ℕ, zero, suc, ◌-◌, ◌≤◌}
+use Prim.Native.Nat.{ℕ, ◌-◌, ◌≤◌}
 use native.Mathlib.Omega.{arith}
 use lib.Dec.{eqb, leb}
 use lib.IntN.{ℤ, pos, ◌+ℤ◌, +ℤ_idl}
 use lib.ListN.{length, get_or, replicate}
 use borrow.Author.Tests.{le-leb, eqb-true}
-use Rattle.common.proofs.Tests.{either, never, same_arms, and_true}
+use Rattle.std.proofs.lemmas.List.{get_or-replicate, get_or_past, length-replicate}
+use Rattle.common.proofs.Tests.{either, same_arms, and_true}
 use Rattle.calendar.specs.Gregorian.{in_range}
 use Rattle.calendar.specs.Periods.{is_after}
 use Rattle.calendar.proofs.Laws.Promises.{kept_due_lem}
@@ -31,7 +32,7 @@ use Rattle.tables.proofs.Laws.Lookup.{lookup_none, existing_used}
 use Rattle.opening.proofs.Laws.Opening.{opened_done}
 use Rattle.fitness.proofs.Laws.Fitness.{fit_facts}
 use Rattle.model.specs.declared.Way.{Way}
-use Rattle.model.specs.Actions.{presentation, action_of}
+use Rattle.model.specs.Actions.{presentation, authorisation, action_of}
 use Rattle.model.specs.declared.Action.TheVariants.{Collect, Treat}
 use Rattle.model.specs.declared.Treatment.TheVariants.{Undo}
 use Rattle.model.specs.declared.Way.TheVariants.{ByReturn, ByRefund, ByReversal}
@@ -74,8 +75,8 @@ pub record InTurn (before : List Entry) (x : Entry) : Type 0 where
 
 stands_live_lem : (s : Standing) → stands_live s ≡ true → s ≡ Live
 stands_live_lem Live e = refl
-stands_live_lem Closed e = absurd (never e refl)
-stands_live_lem Cancelled e = absurd (never e refl)
+stands_live_lem Closed e = absurd cc
+stands_live_lem Cancelled e = absurd cc
 
 -- one of three numbers
 one_of : (P : Type 0) (n : ℕ) → among undoings n ≡ true → (n ≡ 8 → P) → (n ≡ 9 → P) → (n ≡ 10 → P) → P
@@ -84,7 +85,7 @@ one_of P n h a b c =
     (λ p.
     either (eqb 9 n) (λ q. b (sym (eqb-true 9 n q)))
     (λ q.
-    either (eqb 10 n) (λ r. c (sym (eqb-true 10 n r))) (λ r. absurd (never h (rw (p, q, r))))))
+    either (eqb 10 n) (λ r. c (sym (eqb-true 10 n r))) (λ r. absurd cc)))
 
 module _ (base l : Ledger) (h : List Entry) (s : Reached base l h) (e : Event) where
   undone_by : (way : Way) → ((d : ℕ) → in_range d ≡ true → last_day way d ≡ last_day_from e.kind e.code d) → Passed l e.date (Treat e.a (Undo way)) → UndoneInTime h e
@@ -110,7 +111,7 @@ module _ (base l : Ledger) (h : List Entry) (s : Reached base l h) (e : Event) w
       undone_by ByReturn (λ d r. last_day_return d e.code r ∙ ap (λ (n : ℕ). last_day_from n e.code d) (sym i))
       (subst (Passed l e.date) (action_return e i) p))
       (λ i.
-      undone_by (ByRefund e.b e.code) (λ d r. last_day_refund d e.code r e.b ∙ ap (λ (n : ℕ). last_day_from n e.code d) (sym i))
+      undone_by (ByRefund e.b (authorisation e.code)) (λ d r. last_day_refund d e.code r e.b ∙ ap (λ (n : ℕ). last_day_from n e.code d) (sym i))
       (subst (Passed l e.date) (action_refund e i) p))
       (λ i.
       undone_by ByReversal (λ d r. last_day_reversal d e.code r ∙ ap (λ (n : ℕ). last_day_from n e.code d) (sym i))
@@ -145,14 +146,11 @@ module _ (base l : Ledger) (h : List Entry) (s : Reached base l h) (e : Event) w
 
 -- ---- the opening
 
-zero_entry : (n i : ℕ) → ◌≡◌ {A = ℕ} (get_or (replicate n 0) i 0) 0
-zero_entry zero i = refl
-zero_entry (suc n) zero = refl
-zero_entry (suc n) (suc i) = zero_entry n i
-
 no_bank : (n a : ℕ) → bank_of (replicate n 0) a ≡ 0
 unfolding bank_of
-no_bank n a = rw (zero_entry n (a - 1)) (same_arms (eqb a 0) 0)
+no_bank n a =
+    let z : ◌≡◌ {A = ℕ} (get_or (replicate n 0) (a - 1) 0) 0 = grind (arith, get_or-replicate, get_or_past, length-replicate) in
+    rw z (same_arms (eqb a 0) 0)
 
 no_row : (cells : List ℕ) (n : ℕ) → lookup cells 0 n ≡ None
 no_row cells n = lookup_none cells 0 n (λ j l. absurd (omega (arith, existing_used cells 0)))

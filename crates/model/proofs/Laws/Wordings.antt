@@ -22,7 +22,7 @@ use Rattle.model.specs.declared.Action.{Action}
 use Rattle.model.specs.declared.Change.{Change}
 use Rattle.model.specs.declared.Presentation.{Presentation}
 use Rattle.model.specs.declared.Treatment.{Treatment}
-use Rattle.model.specs.Actions.{new_mandate, presentation, action_of}
+use Rattle.model.specs.Actions.{new_mandate, presentation, authorisation, action_of}
 use Rattle.model.specs.declared.Action.TheVariants.{AddCreditor, AddMandate, ChangeMandate, Collect, Treat}
 use Rattle.model.specs.declared.Change.TheVariants.{NewBank, NewCreditor, Cancel}
 use Rattle.model.specs.declared.Treatment.TheVariants.{Settle, Reject, Undo}
@@ -125,7 +125,7 @@ module _ (j : Journal) (e : Event) where
   unfolding note_back
   back_same k = rw (neg_ℤ-neg_ℤ (pos k.amount))
 
-  refund_same : (k : NotedCollection) → note_refund j k (paid_on e k) ≡ with_figures j k (undone (ByRefund e.b e.code) k.amount k.settled e.date)
+  refund_same : (k : NotedCollection) → note_refund j k (paid_on e k) ≡ with_figures j k (undone (ByRefund e.b (authorisation e.code)) k.amount k.settled e.date)
   unfolding note_refund paid_on
   refund_same k = refl
 
@@ -295,7 +295,7 @@ module _ (sort : Sort) (c : ℕ) (e : Event) (m : Limited e) where
                     (
                       λ h. counted sort c e 8 (Undo ByReturn) h (same_at 8 (Undo ByReturn) refl refl refl) (action_return e h),
                       (
-                        λ h. counted sort c e 9 _ h (same_at 9 (Undo (ByRefund e.b e.code)) refl refl refl) (action_refund e h),
+                        λ h. counted sort c e 9 _ h (same_at 9 (Undo (ByRefund e.b (authorisation e.code))) refl refl refl) (action_refund e h),
                         (λ h. counted sort c e 10 (Undo ByReversal) h (same_at 10 (Undo ByReversal) refl refl refl) (action_reversal e h), tt),
                       ),
                     ),

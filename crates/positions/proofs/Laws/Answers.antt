@@ -2,6 +2,7 @@
 -- To cite: `post_fits` and `transfer_fits` (a posting within capacity is made), `settlement_of_is`, `reversed_of_is`,
 -- `refunded_of_is`. Assumes nothing.
 use Rattle.std.proofs.Common.{Some, Ok, Err}
+use Rattle.std.proofs.lemmas.Int.{ints}
 use mathlib.Core.Path.{◌≡◌, refl, sym, ◌∙◌, ap}
 use mathlib.Core.List.{List}
 use Prim.Native.Nat.{ℕ, ◌≤◌}
@@ -19,7 +20,7 @@ use Rattle.positions.specs.Postings.{settlement, reversed, refunded}
 use Rattle.positions.specs.Compensation.{amount_limit}
 use Rattle.positions.specs.Limits.{compensation_limit}
 use Rattle.positions.specs.Answers.{capacity, entry_index, sizes_answer, post_answer, transfer_answer, after_post, after_transfer, settlement_of, reversed_of, refunded_of}
-use Rattle.positions.proofs.Laws.Integers.{size_add, size_neg, within_size, size_within, size_fits}
+use Rattle.positions.proofs.Laws.Integers.{size_within}
 use Rattle.positions.proofs.Laws.Positions.{has_entry_entry, entry_has_entry, entry_posted, position_index, position_none, posted_index}
 use Rattle.positions.proofs.Laws.Positions.{position_posted_same, transferred_posted, size_posted, size_transferred}
 
@@ -41,7 +42,7 @@ pub ruleset position_steps = (position_at, no_entry_position)
 
 -- 64 bits hold the sum of sizes that fit
 pub sum_fits : (z x : ℤ) → sizes_answer z x ≡ Ok tt → SFits w64 (z +ℤ x)
-sum_fits z x p = size_fits (z +ℤ x) (grind (arith, size_add, within_size))
+sum_fits z x p = grind (arith, ints)
 
 -- ---- post
 
@@ -98,7 +99,7 @@ module _ (l : List ℤ) (from to : ℕ) (x : ℤ) where
     -- 64 bits hold the first new position, the cell before the second, and the second
     module _ (s : sizes_answer (get_or l i (pos 0)) x ≡ Ok tt) (t : sizes_answer (get_or l j (pos 0)) x ≡ Ok tt) where
       pub first_fits : SFits w64 (get_or l i (pos 0) -ℤ x)
-      first_fits = size_fits (get_or l i (pos 0) -ℤ x) (grind (arith, size_add, size_neg, within_size))
+      first_fits = grind (arith, ints)
 
       pub first_back : to_z w64 (of_z w64 (get_or l i (pos 0) -ℤ x)) ≡ get_or l i (pos 0) -ℤ x
       first_back = to_z-of_z first_fits
@@ -106,17 +107,14 @@ module _ (l : List ℤ) (from to : ℕ) (x : ℤ) where
       pub half_back : to_z w64 (of_z w64 (get_or (set l i (get_or l i (pos 0) -ℤ x)) j (pos 0))) ≡ get_or (set l i (get_or l i (pos 0) -ℤ x)) j (pos 0)
       half_back =
           to_z-of_z {w = w64}
-          (rw half_cell
-          (size_fits (position (posted l from (neg_ℤ x)) to) (grind (arith, size_posted l from to (neg_ℤ x), size_neg x, position_at, within_size))))
+          (rw half_cell (grind (arith, ints, size_posted l from to (neg_ℤ x), position_at)))
 
       pub second_fits : SFits w64 (get_or (set l i (get_or l i (pos 0) -ℤ x)) j (pos 0) +ℤ x)
       second_fits =
           let e = entry_posted l from to (neg_ℤ x) (has_entry_entry l to (grind arith)) in
           let read = position_posted_same (posted l from (neg_ℤ x)) to x e in
           let after = ap (λ (t : List ℤ). position t to) (transferred_posted l from to x) in
-          rw half_cell
-          (size_fits (position (posted l from (neg_ℤ x)) to +ℤ x)
-          (grind (arith, size_transferred l from to to x, ap nat_abs (after ∙ read), position_at, within_size)))
+          rw half_cell (grind (arith, ints, size_transferred l from to to x, after ∙ read, position_at))
 
       pub second_back :
           to_z w64 (of_z w64 (get_or (set l i (get_or l i (pos 0) -ℤ x)) j (pos 0) +ℤ x)) ≡ get_or (set l i (get_or l i (pos 0) -ℤ x)) j (pos 0) +ℤ x

@@ -1,8 +1,10 @@
 -- Laws of specs/Compensation. Names: halfUp- speaks of the rounding alone; F-mono says that F keeps the order.
 -- To cite: `compensation_near`, `compensation_half`, `compensation_mono`, `compensation_no_days`. Assumes nothing.
-use Rattle.std.proofs.Common.{None, Some}
-use mathlib.Core.Path.{◌≡◌, refl}
-use mathlib.Core.Bool.{Bool, true, false, cond}
+use Rattle.std.proofs.Common.{Some}
+use Rattle.std.proofs.lemmas.Int.{ints}
+use Rattle.std.proofs.lemmas.Option.{cond_some}
+use mathlib.Core.Path.{◌≡◌, sym}
+use mathlib.Core.Bool.{true}
 use mathlib.Core.List.{[], ◌∷◌}
 use Prim.Native.Nat.{ℕ, ◌+◌, ◌*◌, ◌/◌, ◌<◌, ◌≤◌}
 use native.Mathlib.Nat.{div-add-mod', div-eq_of_lt-le, le-div_iff_mul-le, mod-lt, mul-le-mul, mul-zero}
@@ -11,13 +13,9 @@ use borrow.Author.Tests.{leb-true, le-leb}
 use lib.Dec.{leb}
 use lib.IntN.{pos, nat_abs, ◌-ℤ◌}
 use Rattle.common.proofs.Tests.{all_of_at}
-use Rattle.positions.proofs.Laws.Integers.{size_between}
 use Rattle.positions.specs.Compensation.{parts_of_cent, interest, half_up, compensation, amount_limit, rate_limit, days_limit, in_limits, InLimits, interest_bound, compensation_of}
 
 -- ---- half_up
-
-double_pos : (d : ℕ) → 0 < d → 0 < 2 * d
-double_pos d h = omega arith
 
 module _ (n d : ℕ) (h : 0 < d) where
   -- the rounded number of d's is at most half of one above n
@@ -28,7 +26,7 @@ module _ (n d : ℕ) (h : 0 < d) where
   -- and less than half of one below, so that an exact half goes up
   pub half_up_below : 2 * n < 2 * (half_up n d * d) + d
   unfolding half_up
-  half_up_below = omega (arith, div-add-mod' (2 * n + d) (2 * d), mod-lt (2 * n + d) (double_pos d h))
+  half_up_below = omega (arith, div-add-mod' (2 * n + d) (2 * d), mod-lt (2 * n + d) {m = 2 * d} (omega arith))
 
   -- no other number is so near
   pub half_up_only : (k : ℕ) → 2 * (k * d) ≤ 2 * n + d → 2 * n < 2 * (k * d) + d → half_up n d ≡ k
@@ -41,17 +39,13 @@ half_up_half n d q h e = half_up_only n d h (q + 1) (omega arith) (omega arith)
 pub half_up_mono : (m n d : ℕ) → 0 < d → m ≤ n → half_up m d ≤ half_up n d
 unfolding half_up
 half_up_mono m n d h l =
-    (le-div_iff_mul-le {x = half_up m d} {y = 2 * n + d} (double_pos d h)).1 (omega (arith, div-add-mod' (2 * m + d) (2 * d)))
+    (le-div_iff_mul-le {k = 2 * d} {x = half_up m d} {y = 2 * n + d} (omega arith)).1 (omega (arith, div-add-mod' (2 * m + d) (2 * d)))
 
 -- ---- interest
 
 pub interest_mono : (a b r s d e : ℕ) → a ≤ b → r ≤ s → d ≤ e → interest a r d ≤ interest b s e
 unfolding interest
 interest_mono a b r s d e ha hr hd = mul-le-mul (mul-le-mul ha hr) hd
-
-pub interest_no_days : (a r : ℕ) → interest a r 0 ≡ 0
-unfolding interest
-interest_no_days a r = mul-zero (a * r)
 
 -- ---- compensation
 
@@ -66,8 +60,7 @@ module _ (a r d : ℕ) where
 
   -- no more than half a cent away, on either side
   pub compensation_near : 2 * nat_abs (pos (compensation a r d * parts_of_cent) -ℤ pos (interest a r d)) ≤ parts_of_cent
-  compensation_near =
-      size_between (compensation a r d * parts_of_cent) (interest a r d) parts_of_cent compensation_above (omega (arith, compensation_below))
+  compensation_near = omega (arith, ints, compensation_above, compensation_below)
 
   -- an exact half cent goes up
   pub compensation_half : (q : ℕ) → 2 * interest a r d ≡ (2 * q + 1) * parts_of_cent → compensation a r d ≡ q + 1
@@ -79,8 +72,8 @@ module _ (a r d : ℕ) where
   compensation_le = omega (arith, compensation_above, div-add-mod' (interest a r d) parts_of_cent, mod-lt (interest a r d) {m = parts_of_cent} (omega arith))
 
 pub compensation_no_days : (a r : ℕ) → compensation a r 0 ≡ 0
-unfolding compensation half_up
-compensation_no_days a r = rw (interest_no_days a r)
+unfolding compensation half_up interest
+compensation_no_days a r = rw (mul-zero (a * r))
 
 pub compensation_mono : (a b r s d e : ℕ) → a ≤ b → r ≤ s → d ≤ e → compensation a r d ≤ compensation b s e
 unfolding compensation
@@ -124,10 +117,5 @@ compensation_of_is a r d h = rw (parts_in_limits a r d h)
 
 pub compensation_of_cents : (a r d k : ℕ) → compensation_of a r d ≡ Some k → InLimits a r d × (k ≡ compensation a r d)
 unfolding compensation_of
-compensation_of_cents a r d k e = by_test (in_limits a r d) refl e
-  where
-    by_test :
-        (t : Bool) → in_limits a r d ≡ t → cond t (Some (compensation a r d)) None ≡ Some k
-        → InLimits a r d × (k ≡ compensation a r d)
-    by_test true q p = (in_limits_parts a r d q, cc)
-    by_test false q p = let z : ◌≡◌ {A = ℕ} 0 1 = cc in absurd (omega arith)
+compensation_of_cents a r d k e =
+    let p = cond_some (in_limits a r d) (compensation a r d) k e in (in_limits_parts a r d p.0, sym p.1)

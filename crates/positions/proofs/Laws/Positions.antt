@@ -1,20 +1,20 @@
 -- Laws of specs/Positions. Names: F-G is a law of F (G ..); F-G-same reads the number that was posted to, F-G-other another.
 -- To cite: `position_posted_same`, `position_posted_other`, `posted_comm`, `total_posted`, `total_transferred`,
 -- `size_posted`, `within_posted`. Assumes nothing.
+use Rattle.std.proofs.lemmas.Int.{ints}
 use mathlib.Core.Path.{◌≡◌, refl, sym, ◌∙◌, ap}
 use mathlib.Core.Bool.{Bool, true, false}
 use mathlib.Core.List.{List, [], ◌∷◌}
 use mathlib.Core.Logic.{◌≢◌}
 use Prim.Native.Nat.{ℕ, zero, suc, ◌+◌, ◌*◌, ◌-◌, ◌≤◌}
 use native.Mathlib.Omega.{arith}
-use borrow.Author.Tests.{leb-true, leb-false, le-leb, eqb-true, eqb-false}
+use borrow.Author.Tests.{leb-true, le-leb, eqb-true, eqb-false}
 use lib.Dec.{leb, eqb}
-use lib.IntN.{ℤ, pos, neg_ℤ, nat_abs, ◌+ℤ◌, +ℤ_assoc, +ℤ_idl, +ℤ_idr, +ℤ_invr, +ℤ_invl}
+use lib.IntN.{ℤ, pos, neg_ℤ, nat_abs, ◌+ℤ◌, +ℤ_assoc, +ℤ_idl, +ℤ_idr, +ℤ_invr, +ℤ_invl, -ℤ-+ℤ_cancel}
 use lib.ListN.{length, get_or, set, length-set, get_or-eq_default}
 use lib.Seq.{get_or-set_same, get_or-set_other, set_out, set-get_or}
-use Rattle.common.proofs.Tests.{and_halves, and_true, never}
+use Rattle.common.proofs.Tests.{and_halves, and_true}
 use Rattle.positions.specs.Positions.{has_entry, HasEntry, position, posted, transferred, total, zeros, InLimit}
-use Rattle.positions.proofs.Laws.Integers.{swap_last, cancel_add, size_add, size_neg}
 
 -- ---- the entry of a number
 
@@ -38,25 +38,18 @@ posted_index l zero x h = absurd (omega arith)
 posted_index l (suc i) x h =
     ap (λ (n : ℕ). set l n (get_or l n (pos 0) +ℤ x)) (omega arith)
 
-past_end : (l : List ℤ) (i : ℕ) → has_entry l (suc i) ≡ false → length l ≤ i
-past_end l i e = by_test (leb (suc i) (length l)) refl
-  where
-    by_test : (t : Bool) → leb (suc i) (length l) ≡ t → length l ≤ i
-    by_test true q = absurd (never (and_true (le-leb 1 (suc i) (omega arith)) q) e)
-    by_test false q = omega (arith, leb-false (suc i) (length l) q)
-
 -- a number without an entry has the position 0
 pub position_none : (l : List ℤ) (k : ℕ) → has_entry l k ≡ false → position l k ≡ pos 0
 unfolding position
 position_none l zero e = refl
-position_none l (suc i) e = get_or-eq_default l (pos 0) (past_end l i e)
+position_none l (suc i) e = get_or-eq_default l (pos 0) (grind arith)
 
 -- ---- a posting
 
 pub posted_none : (l : List ℤ) (k : ℕ) (x : ℤ) → has_entry l k ≡ false → posted l k x ≡ l
 unfolding posted
 posted_none l zero x e = refl
-posted_none l (suc i) x e = set_out l i (get_or l i (pos 0) +ℤ x) (past_end l i e)
+posted_none l (suc i) x e = set_out l i (get_or l i (pos 0) +ℤ x) (grind arith)
 
 pub length_posted : (l : List ℤ) (k : ℕ) (x : ℤ) → length (posted l k x) ≡ length l
 unfolding posted
@@ -99,7 +92,7 @@ unfolding posted
 posted_comm l zero j x y = refl
 posted_comm l (suc i) zero x y = refl
 posted_comm [] (suc i) (suc j) x y = refl
-posted_comm (z ∷ l) (suc zero) (suc zero) x y = ap (λ (a : ℤ). a ∷ l) (swap_last z y x)
+posted_comm (z ∷ l) (suc zero) (suc zero) x y = ap (λ (a : ℤ). a ∷ l) (omega (arith, ints))
 posted_comm (z ∷ l) (suc zero) (suc (suc j)) x y = refl
 posted_comm (z ∷ l) (suc (suc i)) (suc zero) x y = refl
 posted_comm (z ∷ l) (suc (suc i)) (suc (suc j)) x y = ap (λ (t : List ℤ). z ∷ t) (posted_comm l (suc i) (suc j) x y)
@@ -130,7 +123,7 @@ pub total_posted : (l : List ℤ) (k : ℕ) (x : ℤ) → HasEntry l k → total
 unfolding posted total
 total_posted l zero x e = absurd (omega (arith, e.low))
 total_posted [] (suc i) x e = absurd (omega (arith, e.high))
-total_posted (z ∷ l) (suc zero) x e = swap_last z (total l) x
+total_posted (z ∷ l) (suc zero) x e = omega (arith, ints)
 total_posted (z ∷ l) (suc (suc i)) x e =
     ap (λ (y : ℤ). z +ℤ y) (total_posted l (suc i) x (record { low = omega arith; high = omega (arith, e.high) }))
     ∙ sym (+ℤ_assoc z (total l) x)
@@ -140,7 +133,7 @@ unfolding transferred
 total_transferred l from to x f t =
     total_posted (posted l from (neg_ℤ x)) to x (entry_posted l from to (neg_ℤ x) t)
     ∙ ap (λ (y : ℤ). y +ℤ x) (total_posted l from (neg_ℤ x) f)
-    ∙ cancel_add (total l) x
+    ∙ -ℤ-+ℤ_cancel (total l) x
 
 pub total_zeros : (n : ℕ) → total (zeros n) ≡ pos 0
 unfolding total
@@ -161,7 +154,7 @@ pub size_posted : (l : List ℤ) (k j : ℕ) (x : ℤ) → nat_abs (position (po
 size_posted l k j x = by_test (eqb j k) refl
   where
     by_entry : (t : Bool) → has_entry l k ≡ t → nat_abs (position (posted l k x) k) ≤ nat_abs (position l k) + nat_abs x
-    by_entry true e = rw (position_posted_same l k x (has_entry_entry l k e)) (size_add (position l k) x)
+    by_entry true e = rw (position_posted_same l k x (has_entry_entry l k e)) (omega (arith, ints))
     by_entry false e = rw (posted_none l k x e) (omega arith)
 
     by_test : (t : Bool) → eqb j k ≡ t → nat_abs (position (posted l k x) j) ≤ nat_abs (position l j) + nat_abs x
@@ -193,7 +186,7 @@ size_transferred l from to j x = by_test (eqb from to) (eqb j to) refl refl
         rw (eqb-true j to q) (omega (arith, size_posted (posted l from (neg_ℤ x)) to to x, ap nat_abs other))
     by_test false false e q =
         rw (position_posted_other (posted l from (neg_ℤ x)) to j x (eqb-false j to q))
-        (omega (arith, size_posted l from j (neg_ℤ x), size_neg x))
+        (omega (arith, ints, size_posted l from j (neg_ℤ x)))
 
 pub within_transferred :
     (m n : ℕ) (l : List ℤ) (from to : ℕ) (x : ℤ) → InLimit m l → nat_abs x ≤ n → InLimit (m + n) (transferred l from to x)
@@ -208,4 +201,4 @@ within_rest m z l w (suc i) = w (suc (suc i))
 pub size_total : (m : ℕ) (l : List ℤ) → InLimit m l → nat_abs (total l) ≤ length l * m
 unfolding total position
 size_total m [] w = omega arith
-size_total m (z ∷ l) w = omega (arith, size_add z (total l), size_total m l (within_rest m z l w), w 1)
+size_total m (z ∷ l) w = omega (arith, ints, size_total m l (within_rest m z l w), w 1)

@@ -1,15 +1,15 @@
 -- Laws of specs/Postings: the two sums of each event are zero, and so the sums of the tables stay.
 -- Names: settlement-, reversed- and refunded- speak of an event; parties-keep and banks-keep of tables posted to.
 -- Assumes nothing.
+use Rattle.std.proofs.lemmas.Int.{ints}
 use mathlib.Core.Path.{◌≡◌, sym, ◌∙◌, ap}
 use mathlib.Core.List.{List}
 use Prim.Native.Nat.{ℕ, ◌+◌, ◌≤◌}
 use native.Mathlib.Omega.{arith}
-use lib.IntN.{ℤ, pos, neg_ℤ, nat_abs, ◌+ℤ◌, +ℤ_assoc, +ℤ_comm, +ℤ_idr, +ℤ_invr, +ℤ_invl, neg_ℤ-+ℤ, neg_ℤ-neg_ℤ}
+use lib.IntN.{ℤ, pos, neg_ℤ, nat_abs, ◌+ℤ◌, +ℤ_invr, +ℤ_invl, neg_ℤ-neg_ℤ}
 use Rattle.positions.specs.declared.Postings.{Postings}
 use Rattle.positions.specs.Positions.{HasEntry, posted, transferred, total}
 use Rattle.positions.specs.Postings.{settlement, opposite, reversed, refunded}
-use Rattle.positions.proofs.Laws.Integers.{swap_last, size_neg}
 use Rattle.positions.proofs.Laws.Positions.{entry_posted, total_posted, transferred_posted, posted_transferred}
 
 -- ---- the two sums of an event, both zero
@@ -23,7 +23,7 @@ bank_sum p = p.dbank +ℤ p.cbank
 -- ---- settlement
 
 pub settlement_parties : (A : ℕ) → party_sum (settlement A) ≡ pos 0
-settlement_parties A = +ℤ_idr (neg_ℤ (pos A) +ℤ pos A) ∙ +ℤ_invl (pos A)
+settlement_parties A = omega (arith, ints)
 
 pub settlement_banks : (A : ℕ) → bank_sum (settlement A) ≡ pos 0
 settlement_banks A = +ℤ_invl (pos A)
@@ -31,12 +31,10 @@ settlement_banks A = +ℤ_invl (pos A)
 -- ---- opposite
 
 pub opposite_parties : (p : Postings) → party_sum p ≡ pos 0 → party_sum (opposite p) ≡ pos 0
-opposite_parties p e =
-    sym (neg_ℤ-+ℤ (p.debtor +ℤ p.creditor) p.compensation ∙ ap (λ (z : ℤ). z +ℤ neg_ℤ p.compensation) (neg_ℤ-+ℤ p.debtor p.creditor))
-    ∙ ap neg_ℤ e
+opposite_parties p e = omega (arith, ints)
 
 pub opposite_banks : (p : Postings) → bank_sum p ≡ pos 0 → bank_sum (opposite p) ≡ pos 0
-opposite_banks p e = sym (neg_ℤ-+ℤ p.dbank p.cbank) ∙ ap neg_ℤ e
+opposite_banks p e = omega (arith, ints)
 
 -- ---- reversed
 
@@ -49,18 +47,12 @@ reversed_banks A = opposite_banks (settlement A) (settlement_banks A)
 -- ---- refunded
 
 pub refunded_parties : (A K : ℕ) → party_sum (refunded A K) ≡ pos 0
-refunded_parties A K = swap_last (pos A) (pos K) (neg_ℤ (pos (A + K))) ∙ +ℤ_invr (pos (A + K))
+refunded_parties A K = omega (arith, ints)
 
 pub refunded_banks : (A K : ℕ) → bank_sum (refunded A K) ≡ pos 0
 refunded_banks A K = +ℤ_invr (pos (A + K))
 
 -- ---- the tables after an event whose sums are zero
-
-left_comm : (a b c : ℤ) → a +ℤ (b +ℤ c) ≡ b +ℤ (a +ℤ c)
-left_comm a b c = sym (+ℤ_assoc a b c) ∙ ap (λ (z : ℤ). z +ℤ c) (+ℤ_comm a b) ∙ +ℤ_assoc b a c
-
-regroup : (a b c x y z : ℤ) → a +ℤ y +ℤ (b +ℤ x) +ℤ (c +ℤ z) ≡ a +ℤ b +ℤ c +ℤ (x +ℤ y +ℤ z)
-regroup a b c x y z = simp (+ℤ_assoc, +ℤ_comm, left_comm)
 
 -- creditors, debtors and total compensation
 pub parties_keep :
@@ -69,21 +61,14 @@ pub parties_keep :
     → total (posted creditors c p.creditor) +ℤ total (posted debtors d p.debtor) +ℤ (compensation +ℤ p.compensation)
     ≡ total creditors +ℤ total debtors +ℤ compensation
 parties_keep creditors debtors compensation c d p hc hd e =
-    rw (total_posted creditors c p.creditor hc, total_posted debtors d p.debtor hd)
-    (regroup (total creditors) (total debtors) compensation p.debtor p.creditor p.compensation
-    ∙ ap (λ (z : ℤ). total creditors +ℤ total debtors +ℤ compensation +ℤ z) e
-    ∙ +ℤ_idr (total creditors +ℤ total debtors +ℤ compensation))
+    rw (total_posted creditors c p.creditor hc, total_posted debtors d p.debtor hd) (omega (arith, ints))
 
 -- the banks, equal ones too
 pub banks_keep :
     (banks : List ℤ) (d c : ℕ) (p : Postings) → HasEntry banks d → HasEntry banks c → bank_sum p ≡ pos 0
     → total (posted (posted banks d p.dbank) c p.cbank) ≡ total banks
 banks_keep banks d c p hd hc e =
-    total_posted (posted banks d p.dbank) c p.cbank (entry_posted banks d c p.dbank hc)
-    ∙ ap (λ (z : ℤ). z +ℤ p.cbank) (total_posted banks d p.dbank hd)
-    ∙ +ℤ_assoc (total banks) p.dbank p.cbank
-    ∙ ap (λ (z : ℤ). total banks +ℤ z) e
-    ∙ +ℤ_idr (total banks)
+    rw (total_posted (posted banks d p.dbank) c p.cbank (entry_posted banks d c p.dbank hc), total_posted banks d p.dbank hd) (omega (arith, ints))
 
 -- ---- the two postings to the banks are one transfer
 
@@ -117,18 +102,18 @@ pub record AtMost (m : ℕ) (p : Postings) : Type 0 where
 
 pub opposite_size : (m : ℕ) (p : Postings) → AtMost m p → AtMost m (opposite p)
 opposite_size m p h = record {
-  debtor = rw size_neg h.debtor;
-  creditor = rw size_neg h.creditor;
-  dbank = rw size_neg h.dbank;
-  cbank = rw size_neg h.cbank;
-  compensation = rw size_neg h.compensation;
+  debtor = omega (arith, ints, h.debtor);
+  creditor = omega (arith, ints, h.creditor);
+  dbank = omega (arith, ints, h.dbank);
+  cbank = omega (arith, ints, h.cbank);
+  compensation = omega (arith, ints, h.compensation);
 }
 
 pub settlement_size : (A : ℕ) → AtMost A (settlement A)
 settlement_size A = record {
-  debtor = rw size_neg (omega arith);
+  debtor = omega (arith, ints);
   creditor = omega arith;
-  dbank = rw size_neg (omega arith);
+  dbank = omega (arith, ints);
   cbank = omega arith;
   compensation = omega arith;
 }
@@ -139,8 +124,8 @@ reversed_size A = opposite_size A (settlement A) (settlement_size A)
 pub refunded_size : (A K : ℕ) → AtMost (A + K) (refunded A K)
 refunded_size A K = record {
   debtor = omega arith;
-  creditor = rw size_neg (omega arith);
+  creditor = omega (arith, ints);
   dbank = omega arith;
-  cbank = rw size_neg (omega arith);
+  cbank = omega (arith, ints);
   compensation = omega arith;
 }

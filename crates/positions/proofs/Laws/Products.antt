@@ -1,4 +1,4 @@
--- Laws of specs/Products. To cite: `products`, `rate_days_amount_interest`, `rate_days_most`, `rate_days_call`, `rate_days_amount_call`; for the
+-- Laws of specs/Products. To cite: `products`, `rate_days_amount_interest`, `rate_days_call`, `rate_days_amount_call`; for the
 -- code `cents_laws`. Assumes nothing.
 use Rattle.std.proofs.Common.{Err, None, Ok, Result, Some, ℕ}
 use mathlib.Core.Bool.{Bool, true, false, cond, ◌&&◌}
@@ -9,9 +9,9 @@ use Rattle.common.specs.Tests.{all_of}
 use Rattle.common.proofs.Tests.{either}
 use Rattle.refusals.specs.declared.Refusal.TheVariants.{BadField}
 use mathlib.Core.Path.{◌≡◌, refl, sym, ap, ◌∙◌}
-use Prim.Native.Nat.{ℕ, ◌*◌, ◌<◌, ◌≤◌}
+use Prim.Native.Nat.{ℕ, ◌<◌}
 use native.Mathlib.Omega.{arith}
-use native.Mathlib.Nat.{mul_assoc, mul_comm, mul-le-mul, mul-one}
+use native.Mathlib.Nat.{mul-one}
 use Rattle.refusals.specs.declared.Refusal.{Refusal}
 use Rattle.positions.specs.Compensation.{amount_limit, rate_limit, days_limit, in_limits, parts_of_cent, interest, half_up, interest_bound, compensation, compensation_of}
 use Rattle.positions.proofs.Laws.Compensation.{in_limits_parts, interest_fits}
@@ -21,13 +21,7 @@ use Rattle.positions.specs.Products.{rate_days, rate_days_amount, rate_days_amou
 
 pub rate_days_amount_interest : (days rate amount : ℕ) → rate_days_amount days rate amount ≡ interest amount rate days
 unfolding rate_days_amount rate_days interest
-rate_days_amount_interest days rate amount =
-    mul_comm (days * rate) amount ∙ ap (λ (n : ℕ). amount * n) (mul_comm days rate) ∙ sym (mul_assoc amount rate days)
-
--- the largest first product
-pub rate_days_most : (days rate : ℕ) → days ≤ days_limit → rate ≤ rate_limit → rate_days days rate ≤ 9989001
-unfolding rate_days
-rate_days_most days rate d r = mul-le-mul d r
+rate_days_amount_interest days rate amount = omega arith
 
 -- ---- the compensation
 

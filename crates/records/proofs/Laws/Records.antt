@@ -10,7 +10,6 @@ use borrow.Author.Tests.{le-leb, lt-ltb}
 use lib.Dec.{ltb}
 use native.Mathlib.Omega.{arith}
 use lib.ListN.{length}
-use Rattle.common.proofs.Tests.{never}
 use Rattle.refusals.specs.declared.Refusal.{Refusal}
 use Rattle.tables.specs.declared.Mandate.{Mandate}
 use Rattle.tables.specs.Ledger.{Ledger}
@@ -22,34 +21,36 @@ use Rattle.model.specs.declared.Change.{Change}
 use Rattle.model.specs.declared.Presentation.{Presentation}
 use Rattle.model.specs.Lookups.{is_known, in_row, mandate_of, collection_of}
 use Rattle.model.specs.Checks.{ruled}
-use Rattle.model.specs.Effects.{effect}
-use Rattle.checking.specs.Calls.{is_found, used_row, Done}
+use Rattle.model.specs.Effects.{effect, dated, keep_mandate, add_collection, presented_on, new_collection}
+use Rattle.tables.specs.declared.Mandate.{Mandate}
+use Rattle.checking.specs.Calls.{is_found, used_row, found_row, verdict_by, Done}
 use Rattle.checking.proofs.Laws.Calls.{done_refused, done_accepted, done_same, judged_passes}
-use Rattle.records.specs.Records.{verdict_by, mandate_in, CreditorAdded, MandateAdded, change_checks, change_answer, change_effect, MandateChanged, collect_checks, collect_answer, collect_effect, Collected}
+use Rattle.records.specs.Records.{mandate_in, CreditorAdded, MandateAdded, change_checks, change_answer, change_effect, MandateChanged, collect_checks, collect_answer, collect_effect, Collected}
 
 -- ---- the verdict on a collect
 
-pub verdict_go : (a : Result Unit Refusal) (p x : Presentation) → verdict_by a p ≡ Ok x → (a ≡ (Ok tt)) × (x ≡ p)
+pub verdict_go : {A : Type 0} (a : Result Unit Refusal) (p x : A) → verdict_by a p ≡ Ok x → (a ≡ (Ok tt)) × (x ≡ p)
 verdict_go (Ok tt) p x e = (refl, cc)
-verdict_go (Err r) p x e = let z : ◌≡◌ {A = ℕ} 0 1 = cc in absurd (omega arith)
+verdict_go (Err r) p x e = absurd cc
 
-verdict_refuse : (a : Result Unit Refusal) (p : Presentation) (r : Refusal) → verdict_by a p ≡ Err r → a ≡ Err r
-verdict_refuse (Ok tt) p r e = let z : ◌≡◌ {A = ℕ} 0 1 = cc in absurd (omega arith)
+verdict_refuse : {A : Type 0} (a : Result Unit Refusal) (p : A) (r : Refusal) → verdict_by a p ≡ Err r → a ≡ Err r
+verdict_refuse (Ok tt) p r e = absurd cc
 verdict_refuse (Err x) p r e = cc
 
 module _ (mandate collection : Option ℕ) (l : Ledger) (date : ℕ) (p : Presentation) where
-  pub collected_refused :
-      (x : Refusal) (r : Result Unit Refusal) → verdict_by (collect_answer mandate collection l date p) p ≡ Err x
+  pub collected_refused : {A : Type 0} (a : A)
+      (x : Refusal) (r : Result Unit Refusal) → verdict_by (collect_answer mandate collection l date p) a ≡ Err x
       → r ≡ Err x → Collected mandate collection l date p r l
-  collected_refused x r e f =
-      rw f (done_refused _ l _ x (verdict_refuse (collect_answer mandate collection l date p) p x e))
+  collected_refused a x r e f =
+      rw f (done_refused _ l _ x (verdict_refuse (collect_answer mandate collection l date p) a x e))
 
   pub collected_done :
-      (k : Presentation) (l' : Ledger) → verdict_by (collect_answer mandate collection l date p) p ≡ Ok k
-      → l' ≡ collect_effect mandate l date k → Collected mandate collection l date p (Ok tt) l'
-  collected_done k l' e f =
-      let v = verdict_go (collect_answer mandate collection l date p) p k e in
-      done_accepted _ _ _ l' v.0 (rw v.1 at f)
+      (v : Mandate × Presentation) (l' : Ledger) → verdict_by (collect_answer mandate collection l date p) (mandate_in mandate l, p) ≡ Ok v
+      → l' ≡ add_collection (keep_mandate (dated l date) (found_row mandate) (presented_on v.1 v.0)) (new_collection l.creditors v.1 v.0)
+      → Collected mandate collection l date p (Ok tt) l'
+  collected_done v l' e f =
+      let w = verdict_go (collect_answer mandate collection l date p) (mandate_in mandate l, p) v e in
+      done_accepted _ _ _ l' w.0 (rw w.1 at f)
 
 -- ---- the model's answers and effects
 
@@ -91,7 +92,7 @@ module _ (l : Ledger) (date number : ℕ) (c : Change) where
   change_effect_lem : (f : Option ℕ) → lookup l.mandates l.mandates_used number ≡ f → change_answer f l date c ≡ (Ok tt) → change_effect f l date c ≡ effect l date (ChangeMandate number c)
   unfolding effect
   change_effect_lem None e a =
-      absurd (never (judged_passes (change_checks l.latest date c false (mandate_in None l) l.creditors) refl a 1) refl)
+      absurd (cc (judged_passes (change_checks l.latest date c false (mandate_in None l) l.creditors) refl a 1))
   change_effect_lem (Some row) e a = rw e
 
 pub change_ruled :
@@ -113,9 +114,7 @@ module _ (l : Ledger) (date : ℕ) (p : Presentation) where
   unfolding effect
   collect_effect_lem None g e a =
       absurd
-      (never
-      (judged_passes (collect_checks l.latest date p false g (ltb l.collections_used (rows l.collections)) (mandate_in None l)) refl a 2)
-      refl)
+      (cc (judged_passes (collect_checks l.latest date p false g (ltb l.collections_used (rows l.collections)) (mandate_in None l)) refl a 2))
   collect_effect_lem (Some row) g e a = rw e
 
 pub collect_ruled :

@@ -10,7 +10,6 @@ use Prim.Native.Nat.{◌+◌, ◌/◌}
 use native.Mathlib.Numerals.{add-one}
 use native.Mathlib.Omega.{arith}
 use lib.ListN.{length}
-use Rattle.common.proofs.Tests.{never}
 use Rattle.refusals.specs.declared.Refusal.{Refusal}
 use Rattle.refusals.specs.Refusals.{answer_number}
 use Rattle.events.specs.declared.Event.{Event}
@@ -70,7 +69,7 @@ module _ (l : Ledger) (events : List ℕ) where
       record {
         answer = rw w.sizes w.number;
         after = rw w.sizes w.is;
-        kept = λ z. absurd (never z w.sizes);
+        kept = λ z. absurd (cc w.sizes);
       }
 
   pub replayed_done : (r : Result Unit Refusal) (l' l'' : Ledger) → r ≡ (Ok tt) → open_result (answer_number r) l' ≡ opening l → l'' ≡ run l' (events_in events) → Replayed l (events_in events) (Ok tt) l''

@@ -16,7 +16,7 @@ use lib.Dec.{leb}
 use lib.ListN.{length, take, drop, get_or, length-take, length-drop}
 use lib.Seq.{length-take-le, get_or-take, get_or-drop}
 use Rattle.common.specs.Walk.{first_from}
-use Rattle.common.proofs.Tests.{never, either, false_unless}
+use Rattle.common.proofs.Tests.{either, false_unless}
 use Rattle.common.proofs.Walk.{first_from_hit, first_from_miss, first_from_end, cases_from}
 use Rattle.lines.specs.Line.{line_end}
 use Rattle.report.specs.Cut.{ends_at, end_from, is_none, is_at, IsFirstEnd}
@@ -166,10 +166,10 @@ module _ (text : List ℕ) (from k : ℕ) (h : from + k ≤ length text) (none :
 
 none_is : (a : Option ℕ) → is_none a ≡ true → a ≡ None
 none_is None e = refl
-none_is (Some i) e = absurd (never e refl)
+none_is (Some i) e = absurd cc
 
 pub is_at_true : (k : ℕ) (a : Option ℕ) → is_at k a ≡ true → a ≡ Some k
-is_at_true k None e = absurd (never e refl)
+is_at_true k None e = absurd cc
 is_at_true k (Some i) e = ap Some (eqb-true i k e)
 
 pub is_none_endless : (text : List ℕ) → is_none (end_from text 0) ≡ true → Endless text
@@ -219,7 +219,7 @@ module _ (text : List ℕ) (from k : ℕ) where
       e
       ∙ sym
       (false_unless (is_at (from + k) (end_from text from))
-      (λ q. never (endless_none part (part_endless (end_from_at text from (from + k) (is_at_true (from + k) (end_from text from) q)))) e)))
+      (λ q. cc (endless_none part (part_endless (end_from_at text from (from + k) (is_at_true (from + k) (end_from text from) q)))))))
     where
       part_endless : FirstEnd text from (from + k) → Endless (take (from + k - from) (drop from text))
       part_endless f j l q =

@@ -1,7 +1,6 @@
 -- Laws of specs/Run. To cite: `one_line`; `piece_by_piece` for two pieces and `in_pieces` (specs/Promises) for any number; for a run over
 -- the lines of a text `Answering` with `answering_start`, `answering_line`, `rest_after`. Assumes nothing.
 use mathlib.Core.Path.{◌≡◌, refl, sym, ap, ◌∙◌}
-use mathlib.Core.Bool.{Bool, true, false, cond}
 use mathlib.Core.Logic.{⊎_elim, ◌≢◌}
 use mathlib.Core.List.{List, [], ◌∷◌, ◌++◌, append_assoc, append-nil}
 use Prim.Native.Nat.{ℕ, suc, ◌+◌, ◌-◌, ◌≤◌, ◌<◌}
@@ -11,12 +10,13 @@ use borrow.Author.Tests.{ne_eqb, eqb-false, leb-true, leb-false}
 use lib.Dec.{eqb, leb, ltb}
 use lib.ListN.{length, take, drop, get_or, length-append, length-take, length-drop, take-append-drop, get_or-append}
 use lib.Seq.{take_all, take-append-le, take-take, length-take-le, take-add, take-suc, get_or-take, get_or-drop, get_or-append_seam}
+use Rattle.std.proofs.lemmas.Bool.{cond_both}
 use Rattle.common.proofs.Tests.{either}
 use Rattle.lines.specs.Line.{line_end, read_line}
 use Rattle.lines.proofs.Laws.Line.{read_line_length}
 use Rattle.tables.specs.Ledger.{Ledger}
 use Rattle.report.specs.Layout.{last_number}
-use Rattle.run.specs.Run.{Run, after_line, run_at, clipped_length, clipped, ended, line_output, take_byte, byte_output, take_text, text_output, end_text, end_output}
+use Rattle.run.specs.Run.{Run, run_at, clipped_length, clipped, ended, line_output, take_byte, byte_output, take_text, text_output, end_text, end_output}
 use Rattle.run.specs.Promises.{take_piece, next_output, take_pieces, pieces_output, at_once, InPieces}
 use Rattle.report.proofs.Laws.Cut.{Endless, FirstEnd}
 
@@ -146,21 +146,13 @@ endless_more x b e n j h q =
 partial_byte : (r : Run) (b : ℕ) → Partial r → Partial (take_byte r b)
 partial_byte r b h =
     either (eqb b line_end)
-    (λ e. rw e (ended_partial (ltb r.lines last_number)))
+    (λ e. rw e (cond_both (ltb r.lines last_number) _ _ Partial (λ _. partial_none _ _) (λ _. partial_none _ _)))
     (λ e.
     rw e
     (record {
       endless = endless_more r.partial b h.endless (eqb-false b line_end e);
       short = omega (arith, length-take clipped_length (r.partial ++ (b ∷ [])));
     }))
-  where
-    ended_partial : (more : Bool)
-        → Partial
-        (cond more
-        (run_at (after_line r.book (read_line (clipped (r.partial ++ (b ∷ []))))) (r.lines + 1) [])
-        (run_at r.book r.lines []))
-    ended_partial true = partial_none (after_line r.book (read_line (clipped (r.partial ++ (b ∷ []))))) (r.lines + 1)
-    ended_partial false = partial_none r.book r.lines
 
 pub partial_text : (p : List ℕ) (r : Run) → Partial r → Partial (take_text r p)
 unfolding take_text

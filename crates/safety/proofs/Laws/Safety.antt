@@ -1,13 +1,16 @@
 -- Laws of specs/Safety: the test passes exactly where the tables are `Safe`, as a list of events keeps them.
 -- To cite: `safe_facts`, `safe_made`; for the code `unfit_unsafe`, `fit_bounded`, `bounded_tested`, `fit_rows`,
--- `spent_small`, `spent_is`. Assumes nothing.
-use mathlib.Core.Path.{◌≡◌, refl, sym, ap}
+-- `spent_small`, `rows_few`, `rows_spent`. Assumes nothing.
+use mathlib.Core.Path.{◌≡◌, sym, ◌∙◌, ap}
 use mathlib.Core.Bool.{Bool, true, false, ◌&&◌}
 use mathlib.Core.List.{List, [], ◌∷◌}
 use Prim.Native.Nat.{ℕ, suc, ◌^◌, ◌≤◌, ◌<◌}
 use native.Mathlib.Omega.{arith}
 use lib.IntN.{ℤ, pos, neg_ℤ, nat_abs}
 use lib.ListN.{length, get_or}
+use Rattle.std.proofs.Common.{map}
+use Rattle.std.specs.List.{sum_by, range_with_len}
+use Rattle.std.proofs.lemmas.List.FromFn.{length-map-range_with_len}
 use Rattle.common.specs.Limits.{collection_row_limit}
 use Rattle.common.specs.Tests.{all_of}
 use Rattle.common.proofs.Tests.{and_halves, and_true, all_of_at}
@@ -16,13 +19,17 @@ use Rattle.common.proofs.Walk.{all_from_at, all_from_made}
 use Rattle.positions.specs.Positions.{position, in_limit, InLimit}
 use Rattle.positions.proofs.Laws.Integers.{within_size, size_within}
 use Rattle.tables.specs.Ledger.{Ledger}
-use Rattle.tables.specs.Rows.{rows}
+use Rattle.tables.specs.Limits.{stride}
+use Rattle.tables.specs.CollectionColumn
+use Rattle.tables.specs.Rows.{rows, row_at}
+use Rattle.tables.specs.Lookup.{existing}
+use Rattle.tables.proofs.Laws.Lookup.{existing_fit}
 use Rattle.fitness.specs.Fitness.{fit}
 use Rattle.fitness.proofs.Laws.Fitness.{fit_facts, compensation_facts}
-use Rattle.model.specs.Bounds.{sum_rows, moved_at, spent, Bounded, Safe}
+use Rattle.model.specs.Bounds.{spent, Bounded, Safe}
 use Rattle.model.proofs.Laws.Bounds.{entries_within}
-use Rattle.safety.specs.Safety.{within_at, within_spent, bounded, is_safe, between, all_between}
-use Rattle.safety.proofs.Laws.Sums.{sum_small}
+use Rattle.safety.specs.Safety.{within_at, within_spent, bounded, is_safe, tag_moved, between, all_between}
+use Rattle.safety.proofs.Laws.Sums.{sum_by_rows, sum_small}
 
 -- ---- a table
 
@@ -39,9 +46,6 @@ module _ (m : ℕ) (positions : List ℤ) where
       all_from_made (within_at m positions) (length positions) (λ i h. size_within m (get_or positions i (pos 0)) (w (suc i)))
 
 -- ---- the ledger
-
-paid_size : {z : ℤ} {cents m : ℕ} → z ≡ pos cents → cents ≤ m → nat_abs z ≤ m
-paid_size e h = rw e h
 
 module _ (l : Ledger) where
   bound_tests : List Bool
@@ -72,7 +76,7 @@ module _ (l : Ledger) where
       (within_made (spent l) l.creditor_positions b.creditors)
       (within_made (spent l) l.debtor_positions b.debtors)
       (within_made (spent l) l.bank_positions b.banks)
-      (size_within (spent l) l.compensation (paid_size b.paid b.cents_le))
+      (size_within (spent l) l.compensation (omega (arith, ap nat_abs b.paid, b.cents_le)))
 
   -- memory that passes the test is safe
   pub safe_facts : is_safe l ≡ true → Safe l
@@ -120,6 +124,14 @@ module _ (l : Ledger) where
   unfolding spent
   spent_small e = sum_small l.collections l.collections_used (fit_rows e).1
 
-  pub spent_is : sum_rows (moved_at l.collections) l.collections_used ≡ spent l
-  unfolding spent
-  spent_is = refl
+  -- the used rows one after the other
+  module _ (e : fit l ≡ true) (lent : List (List ℕ)) (r : lent ≡ map (row_at stride l.collections) (range_with_len 0 (existing l.collections l.collections_used))) where
+    all_lent : lent ≡ map (row_at stride l.collections) (range_with_len 0 l.collections_used)
+    all_lent = r ∙ ap (λ (n : ℕ). map (row_at stride l.collections) (range_with_len 0 n)) (existing_fit l.collections l.collections_used (fit_rows e).0)
+
+    pub rows_few : length lent ≤ collection_row_limit
+    rows_few = rw (all_lent, length-map-range_with_len (row_at stride l.collections) 0 l.collections_used) (fit_rows e).1
+
+    pub rows_spent : sum_by (λ fields. tag_moved (get_or fields CollectionColumn.state 0)) lent ≡ spent l
+    unfolding spent
+    rows_spent = rw all_lent (sum_by_rows l.collections l.collections_used)

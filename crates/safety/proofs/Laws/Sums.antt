@@ -1,9 +1,12 @@
--- What the rows have moved, summed row by row by the tags of their states. To cite: `sum_step`, `sum_small`.
+-- What the rows have moved, summed row by row by the tags of their states. To cite: `tag_small`, `sum_by_rows`, `sum_small`.
 -- Assumes nothing.
-use mathlib.Core.Path.{◌≡◌, refl, ap}
+use Rattle.std.proofs.Common.{map}
+use Rattle.std.specs.List.{sum_by, range_with_len}
+use Rattle.std.proofs.lemmas.List.FromFn.{sum_by-map-range_with_len_more}
+use mathlib.Core.Path.{◌≡◌, refl, sym, ap, ◌∙◌}
 use mathlib.Core.Bool.{Bool, true, false, cond}
 use mathlib.Core.List.{List, []}
-use Prim.Native.Nat.{ℕ, zero, suc, ◌+◌, ◌*◌, ◌^◌, ◌≤◌, ◌<◌}
+use Prim.Native.Nat.{ℕ, zero, suc, ◌*◌, ◌^◌, ◌≤◌, ◌<◌}
 use native.Mathlib.Numerals.{add-one}
 use native.Mathlib.Omega.{arith}
 use borrow.Author.Tests.{lt-leb, ne_eqb}
@@ -15,12 +18,20 @@ use Rattle.positions.specs.Limits.{row_move}
 use Rattle.tables.specs.declared.State.TheVariants.{Undone}
 use Rattle.tables.specs.declared.Undoing.TheVariants.{Return, Refund, Reversal}
 use Rattle.tables.specs.Limits.{stride}
+use Rattle.tables.specs.CollectionColumn
 use Rattle.tables.specs.Records.{state_of, collection_from}
-use Rattle.tables.specs.Rows.{collection_at}
+use Rattle.tables.specs.Rows.{row_at, collection_at}
 use Rattle.tables.specs.Ledger.{Ledger}
 use Rattle.model.specs.Bounds.{sum_rows, moved, moved_at, spent}
 use Rattle.model.proofs.Laws.Spent.{spent_limit}
 use Rattle.safety.specs.Safety.{tag_moved}
+
+-- no row has moved more
+pub tag_small : (tag : ℕ) → tag_moved tag ≤ row_move
+tag_small zero = omega arith
+tag_small (suc zero) = omega arith
+tag_small (suc (suc zero)) = omega arith
+tag_small (suc (suc (suc n))) = rw (lt-leb (suc (suc (suc n))) 1 (omega arith), lt-leb (suc (suc (suc n))) 2 (omega arith)) (omega arith)
 
 -- however a row was undone
 undone_moved : (a b : Bool) (day : ℕ) → moved (cond a (Undone day Return) (cond b (Undone day Refund) (Undone day Reversal))) ≡ row_move
@@ -44,21 +55,22 @@ moved_state (suc (suc (suc n))) day =
     )
     (undone_moved (eqb tag 3) (eqb tag 4) day)
 
+abbrev row_moved : List ℕ → ℕ
+row_moved fields = tag_moved (get_or fields CollectionColumn.state 0)
+
 module _ (cells : List ℕ) where
-  tag_moved_lem : (row : ℕ) → moved_at cells row ≡ tag_moved (get_or cells (row * stride + 7) 0)
+  tag_moved_lem : (row : ℕ) → tag_moved (get_or (row_at stride cells row) CollectionColumn.state 0) ≡ moved_at cells row
   unfolding collection_at collection_from
-  tag_moved_lem row = moved_state (get_or cells (row * stride + 7) 0) (get_or cells (row * stride + 8) 0)
+  tag_moved_lem row = sym (moved_state (get_or (row_at stride cells row) CollectionColumn.state 0) (get_or (row_at stride cells row) CollectionColumn.day 0))
 
-  -- one row more
-  sum_next : (row : ℕ) → sum_rows (moved_at cells) (row + 1) ≡ sum_rows (moved_at cells) row + moved_at cells row
+  -- the rows one after the other
+  pub sum_by_rows : (n : ℕ) → sum_by (λ fields. tag_moved (get_or fields CollectionColumn.state 0)) (map (row_at stride cells) (range_with_len 0 n)) ≡ sum_rows (moved_at cells) n
   unfolding sum_rows
-  sum_next row = ap (sum_rows (moved_at cells)) (add-one row)
-
-  -- as the code adds it
-  pub sum_step :
-      (row sum x : ℕ) → sum ≡ sum_rows (moved_at cells) row → x ≡ tag_moved (get_or cells (row * stride + 7) 0)
-      → sum + x ≡ sum_rows (moved_at cells) (row + 1)
-  sum_step row sum x s e = rw (s, e, sum_next row, tag_moved_lem row)
+  sum_by_rows zero = refl
+  sum_by_rows (suc n) =
+      ap (λ (m : ℕ). sum_by row_moved (map (row_at stride cells) (range_with_len 0 m))) (sym (add-one n))
+      ∙ sum_by-map-range_with_len_more row_moved (row_at stride cells) 0 n n (omega arith)
+      ∙ rw (sum_by_rows n, tag_moved_lem n)
 
   -- the tables of which only the collections count
   of_rows : ℕ → Ledger

@@ -1,17 +1,17 @@
 -- `safety::is_safe` meets its contract: fitness first, then the sum of the rows, then each table. Assumes nothing.
-use Rattle.std.proofs.Common.{rules}
+use Rattle.std.proofs.Common.{rules, arith}
+use Rattle.std.proofs.lemmas.Int.{ints}
 use mir.Syntax.{w64}
 use mir.Val.{to_z, of_z}
 use mathlib.Core.Bool.{true}
-use mathlib.Core.Path.{◌≡◌, sym, ◌∙◌, ap}
-use Prim.Native.Nat.{ℕ, ◌^◌, ◌<◌}
+use mathlib.Core.Path.{◌≡◌, sym, ap, ◌∙◌}
+use Prim.Native.Nat.{◌^◌, ◌<◌}
 use lib.IntN.{pos, neg_ℤ, ◌-ℤ◌}
-use Rattle.positions.proofs.Laws.Integers.{size_fits, bits_small, minus_small, minus_small_fits}
 use Rattle.fitness.specs.Fitness.{fit}
 use Rattle.tables.specs.Ledger.{ledger_of}
 use Rattle.model.specs.Bounds.{spent}
 use Rattle.safety.specs.Safety.{between}
-use Rattle.safety.proofs.Laws.Safety.{unfit_unsafe, fit_bounded, bounded_tested, fit_rows, spent_small, spent_is}
+use Rattle.safety.proofs.Laws.Safety.{unfit_unsafe, fit_bounded, bounded_tested, rows_few, spent_small, rows_spent}
 use Rattle.safety.proofs.is_safe.Goals as goal
 
 pub returns-then-not-is_fit : goal.returns-then-not-is_fit
@@ -23,32 +23,32 @@ pub sum_moved-high-requires : goal.sum_moved-high-requires
 sum_moved-high-requires c =
     let book = ledger_of c.args.book.now in
     let fitted : fit book ≡ true = sym c.is_fit.ensures ∙ c.if-not-is_fit.false in
-    fit_rows book fitted
+    rows_few book fitted _ c.used_rows.ensures
 
 pub overflow_cast-high : goal.overflow_cast-high
 overflow_cast-high c =
     let book = ledger_of c.args.book.now in
     let fitted : fit book ≡ true = sym c.is_fit.ensures ∙ c.if-not-is_fit.false in
-    let summed : c.sum_moved-high.result ≡ spent book = c.sum_moved-high.ensures ∙ spent_is book in
+    let summed : c.sum_moved-high.result ≡ spent book = c.sum_moved-high.ensures ∙ rows_spent book fitted _ c.used_rows.ensures in
     let small : c.sum_moved-high.result < 2 ^ 63 = rw summed (spent_small book fitted) in
-    size_fits (pos c.sum_moved-high.result) small
+    omega (arith, ints)
 
 pub overflow_sub-low : goal.overflow_sub-low
 overflow_sub-low c =
     let book = ledger_of c.args.book.now in
     let fitted : fit book ≡ true = sym c.is_fit.ensures ∙ c.if-not-is_fit.false in
-    let summed : c.sum_moved-high.result ≡ spent book = c.sum_moved-high.ensures ∙ spent_is book in
+    let summed : c.sum_moved-high.result ≡ spent book = c.sum_moved-high.ensures ∙ rows_spent book fitted _ c.used_rows.ensures in
     let small : c.sum_moved-high.result < 2 ^ 63 = rw summed (spent_small book fitted) in
-    minus_small_fits c.sum_moved-high.result small
+    omega (arith, ints)
 
 pub returns : goal.returns
 returns c =
     let book = ledger_of c.args.book.now in
     let fitted : fit book ≡ true = sym c.is_fit.ensures ∙ c.if-not-is_fit.false in
-    let summed : c.sum_moved-high.result ≡ spent book = c.sum_moved-high.ensures ∙ spent_is book in
+    let summed : c.sum_moved-high.result ≡ spent book = c.sum_moved-high.ensures ∙ rows_spent book fitted _ c.used_rows.ensures in
     let small : c.sum_moved-high.result < 2 ^ 63 = rw summed (spent_small book fitted) in
-    let lows : to_z w64 (of_z w64 (pos 0 -ℤ to_z w64 c.sum_moved-high.result)) ≡ neg_ℤ (pos (spent book)) = minus_small c.sum_moved-high.result small ∙ ap (λ (n : ℕ). neg_ℤ (pos n)) summed in
-    let highs : to_z w64 c.sum_moved-high.result ≡ pos (spent book) = bits_small c.sum_moved-high.result small ∙ ap pos summed in
+    let lows : to_z w64 (of_z w64 (pos 0 -ℤ to_z w64 c.sum_moved-high.result)) ≡ neg_ℤ (pos (spent book)) = omega (arith, ints) in
+    let highs : to_z w64 c.sum_moved-high.result ≡ pos (spent book) = omega (arith, ints) in
     let d = c in
     let l = book in
     let high = to_z w64 d.sum_moved-high.result in

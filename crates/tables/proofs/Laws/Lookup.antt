@@ -2,7 +2,10 @@
 -- does to a lookup.
 -- To cite: `Lowest` with `lookup_at` and `lookup_made`, `lookup_used`, `lookup_lent`, `lookup_nothing`, `lookup_none`, `lookup_since_lem`, `lookup_put_kept`,
 -- `lookup_put_next`, `Grown` with `grown_same`, `grown_put_kept` and `grown_put_next`, `mandate_at_number`, `collection_at_number`. Assumes nothing.
-use Rattle.std.proofs.Common.{None, Option, Some, ℕ}
+use Rattle.std.proofs.Common.{None, Option, Some, ℕ, map}
+use Rattle.std.specs.Option.{option_map}
+use Rattle.std.specs.Simd.{first_chunks}
+use Rattle.std.specs.List.{find, range_with_len}
 use mathlib.Core.Path.{◌≡◌, refl, sym, ◌∙◌, ap}
 use mathlib.Core.Bool.{Bool, false, cond, ◌||◌}
 use mathlib.Core.List.{List, [], ◌∷◌}
@@ -13,15 +16,15 @@ use native.Mathlib.Numerals.{add-one}
 use native.Mathlib.Omega.{arith}
 use borrow.Author.Tests.{ltb-true, ltb-false, eqb-true, eqb-false}
 use lib.Dec.{eqb, ltb}
-use lib.ListN.{length, get_or}
+use lib.ListN.{length, take, get_or}
 use Rattle.common.specs.Walk.{first_from}
 use Rattle.common.proofs.Tests.{either, any_of_at}
 use Rattle.common.proofs.Walk.{first_from_miss, first_from_cases, first_from_more, first_from_same, first_from_through}
 use Rattle.tables.specs.Limits.{stride}
 use Rattle.tables.specs.Records.{mandate_from, collection_from}
-use Rattle.tables.specs.Rows.{rows, put_row, mandate_at, collection_at}
+use Rattle.tables.specs.Rows.{rows, row_at, put_row, mandate_at, collection_at}
 use Rattle.tables.specs.Lookup.{number_at, number_is, existing, lookup, lookup_since, MayStart}
-use Rattle.tables.proofs.Laws.Rows.{rows_put, cell_put_same, cell_put_other}
+use Rattle.tables.proofs.Laws.Rows.{chunks_are, rows_put, cell_put_same, cell_put_other}
 
 -- ---- existing
 
@@ -42,6 +45,10 @@ module _ (cells : List ℕ) (used : ℕ) where
   -- no more rows used than lent: each of them exists
   pub existing_fit : used ≤ rows cells → existing cells used ≡ used
   existing_fit l = existing_cases (λ (n : ℕ). n ≡ used) (λ h. refl) (λ h. omega arith)
+
+  -- the used rows that there are, as parts of the table
+  pub rows_used : take (existing cells used) (first_chunks stride (rows cells) cells) ≡ map (row_at stride cells) (range_with_len 0 (existing cells used))
+  rows_used = chunks_are stride cells (existing cells used) (omega arith) existing_rows
 
 -- one row more
 existing_more : (cells : List ℕ) (used : ℕ) → existing cells used ≤ existing cells (used + 1)
@@ -265,3 +272,14 @@ module _ (cells : List ℕ) (row : ℕ) (fields : List ℕ) (e : length fields �
       (λ k l. ap (λ (n : ℕ). eqb n number) (number_at_put_other k (λ s. omega arith))))
       ∙ sym (first_from_through (λ (f : Option ℕ). or_else f last) (number_is cells number) Some None 0 row)
       ∙ ap (λ (n : ℕ). or_else (first_from (number_is cells number) Some None 0 n) last) (sym (existing_fit cells row (omega arith)))
+
+-- ---- a search of a range by an iterator's `find`
+
+first_of_range : (t : ℕ → Bool) (i n : ℕ) → find t (range_with_len i n) ≡ first_from t Some None i n
+unfolding first_from
+first_of_range t i zero = refl
+first_of_range t i (suc n) = ap (λ (r : Option ℕ). cond (t i) (Some i) r) (first_of_range t (i + 1) n)
+
+pub found_in_range : (t : ℕ → Bool) (i n : ℕ) (r : Option ℕ) → option_map (λ x. x) r ≡ find t (range_with_len i n) → r ≡ first_from t Some None i n
+found_in_range t i n None e = e ∙ first_of_range t i n
+found_in_range t i n (Some x) e = e ∙ first_of_range t i n

@@ -7,14 +7,17 @@ use mathlib.Core.Path.{◌≡◌, refl, sym, ◌∙◌, ap}
 use mathlib.Core.List.{List, [], ◌∷◌}
 use mathlib.Core.Logic.{◌≢◌}
 use Prim.Native.Nat.{ℕ, zero, suc, ◌+◌, ◌-◌, ◌*◌, ◌/◌, ◌≤◌, ◌<◌}
-use native.Mathlib.Nat.{add-zero, suc-mul, mul-le-mul_right, le-div_iff_mul-le}
+use native.Mathlib.Nat.{add-zero, zero-mul, suc-mul, mul-le-mul_right, le-div_iff_mul-le}
 use native.Mathlib.Omega.{arith}
 use borrow.Author.Tests.{ltb-true, ltb-false, lt-ltb, le-ltb}
 use lib.Dec.{ltb}
 use lib.ListN.{length, get_or, set, take, drop, length-set, length-take, length-drop}
-use lib.Seq.{sets, length-sets, get_or-set_same, get_or-set_other, ext_get_or}
+use lib.Seq.{sets, length-sets, get_or-set_same, get_or-set_other, get_or-take, get_or-drop, ext_get_or}
 use borrow.Rule.Slice.PartMut.{put_mid, Post-is}
-use Rattle.std.proofs.Common.{append_assoc, ◌++◌}
+use Rattle.std.proofs.Common.{append_assoc, ◌++◌, map}
+use Rattle.std.specs.List.{range_with_len}
+use Rattle.std.specs.Simd.{first_chunks}
+use Rattle.std.proofs.lemmas.List.{drop-drop}
 use Rattle.std.proofs.lemmas.List.Edits.{sets-eq}
 use Rattle.common.proofs.Tests.{either}
 use Rattle.tables.specs.declared.Mandate.{Mandate}
@@ -83,6 +86,30 @@ pub row_room : (w : ℕ) (cells : List ℕ) (row : ℕ) → 0 < w → row < rows
 row_room w cells row p h =
     let l : suc row * w ≤ length cells = (le-div_iff_mul-le p).0 h in
     rw suc-mul at l
+
+-- ---- the rows one after the other
+
+-- a row as a part of the table
+part_row : (w : ℕ) (cells : List ℕ) (row : ℕ) → 0 < w → row < rows_of w cells → take w (drop (row * w) cells) ≡ row_at w cells row
+part_row w cells row p h =
+    let room = row_room w cells row p h in
+    row_equal w (take w (drop (row * w) cells)) (row_at w cells row)
+    (length-take w (drop (row * w) cells) ∙ omega (arith, length-drop (row * w) cells))
+    (row_at_length w cells row)
+    (λ k l. get_or-take w (drop (row * w) cells) k 0 l ∙ get_or-drop (row * w) cells k 0 ∙ sym (row_at_cell w cells row k l))
+
+chunks_from : (w : ℕ) (cells : List ℕ) (row n k : ℕ) → 0 < w → n ≤ k → row + k ≤ rows_of w cells → take n (first_chunks w k (drop (row * w) cells)) ≡ map (row_at w cells) (range_with_len row n)
+chunks_from w cells row zero k p l h = refl
+chunks_from w cells row (suc n) zero p l h = absurd (omega arith)
+chunks_from w cells row (suc n) (suc k) p l h =
+    let next : drop w (drop (row * w) cells) ≡ drop ((row + 1) * w) cells = drop-drop w (row * w) cells ∙ ap (λ (m : ℕ). drop m cells) (omega (arith, suc-mul row w)) in
+    rw (part_row w cells row p (omega arith), next, chunks_from w cells (row + 1) n k p (omega arith) (omega arith))
+
+-- the first rows as parts of the table
+pub chunks_are : (w : ℕ) (cells : List ℕ) (n : ℕ) → 0 < w → n ≤ rows_of w cells → take n (first_chunks w (rows_of w cells) cells) ≡ map (row_at w cells) (range_with_len 0 n)
+chunks_are w cells n p h =
+    let start : drop (0 * w) cells ≡ cells = ap (λ (m : ℕ). drop m cells) (zero-mul w) in
+    rw start at (chunks_from w cells 0 n (rows_of w cells) p h (omega arith))
 
 -- ---- put_row
 

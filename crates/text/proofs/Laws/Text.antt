@@ -1,13 +1,13 @@
--- Laws of specs/Text, for the functions of src/text.rt in their order. To cite: `mandates_from`, `collections_from`, `known_kept`;
--- `output_line`; `AnsweredTo` with `answered_start`, `answered_line`, `answered_end`. Assumes nothing.
+-- Laws of specs/Text, for the functions of src/text.rt in their order. To cite: `mandates_from`, `collections_from`, `taken_by_index`,
+-- `known_kept`; `output_line`; `AnsweredTo` with `answered_start`, `answered_line`, `answered_end`. Assumes nothing.
 use Rattle.std.specs.List.{copy_within}
-use Rattle.std.proofs.Common.{Err, Ok, Some, Result}
+use Rattle.std.proofs.Common.{Err, Ok, Option, Some, None, IfSome, Result}
 use mathlib.Core.Path.{◌≡◌, refl, sym, ap, ◌∙◌}
 use mathlib.Core.Bool.{Bool, true, false, cond}
 use mathlib.Core.Logic.{◌≢◌}
 use mathlib.Core.List.{List, [], ◌++◌}
 use Prim.Native.Nat.{ℕ, ◌+◌, ◌-◌, ◌*◌, ◌/◌, ◌≤◌, ◌<◌, min}
-use native.Mathlib.Nat.{zero-add}
+use native.Mathlib.Nat.{add-sub_cancel_left, zero-add}
 use native.Mathlib.Omega.{arith}
 use borrow.Author.Tests.{lt-ltb, leb-true}
 use lib.Dec.{ltb, leb}
@@ -17,6 +17,11 @@ use Rattle.common.proofs.Tests.{and_halves}
 use Rattle.refusals.specs.declared.Refusal.{Refusal}
 use Rattle.refusals.proofs.Laws.Refusals.{number_of_most}
 use Rattle.events.specs.declared.Event.{Event}
+use Rattle.events.specs.Limits.{checked}
+use Rattle.fitness.specs.Fitness.{fit}
+use Rattle.book.specs.Acting.{names_mandate, names_collection, named_mandate, named_collection, ActedFrom}
+use Rattle.book.specs.Events.{Taken}
+use Rattle.book.proofs.Laws.Events.{taken_from}
 use Rattle.digits.specs.Field.{pasted}
 use Rattle.lines.specs.Line.{line_end, read_line}
 use Rattle.tables.specs.Ledger.{Ledger}
@@ -36,10 +41,22 @@ use Rattle.report.proofs.Laws.Cut.{FirstEnd, end_from_at}
 use Rattle.digits.proofs.Laws.Buffer.{pasted_next}
 use Rattle.report.proofs.Laws.Layout.{length_answer_line, answer_fits_made}
 use Rattle.run.proofs.Laws.Run.{Answering, answering_start, answering_line, rest_after, rest_output}
-use Rattle.text.specs.declared.text.Progress.{Progress}
+use Rattle.report.specs.declared.layout.Progress.{Progress}
 use Rattle.text.specs.Text.{Known, LineTaken, LineAnswered, LinesAnswered, piece_fits}
 
 -- ---- what is known of the tables
+
+-- where a number is named, the lookup may start in the first row that the index has for it
+named_start :
+    (index : Index) (cells : List ℕ) (used number start : ℕ) (test : Bool) (named : Option ℕ)
+    → named ≡ cond test (Some number) None
+    → IfSome named (λ n. start ≡ first_row index cells n)
+    → MayStart cells used number (first_row index cells number)
+    → test ≡ true → MayStart cells used number start
+named_start index cells used number start test named e h m t =
+    let q : named ≡ Some number = e ∙ rw t refl in
+    let s : start ≡ first_row index cells number = rw q at h in
+    rw s m
 
 module _ (safe : Bool) (mandates collections : Index) (l : Ledger) (k : ∥ Known safe mandates collections l ∥₁) where
   pub mandates_from : (number : ℕ) → MayStart l.mandates l.mandates_used number (first_row mandates l.mandates number)
@@ -47,6 +64,19 @@ module _ (safe : Bool) (mandates collections : Index) (l : Ledger) (k : ∥ Know
 
   pub collections_from : (number : ℕ) → MayStart l.collections l.collections_used number (first_row collections l.collections number)
   collections_from number = ∥∥₁_elim k (Prim.hlevel props) (λ w. index_holds _ _ _ _ w.collections)
+
+  -- an event acted on from the rows that the indexes have for what it names; l' is the ledger as its cells were lent
+  pub taken_by_index :
+      (l' : Ledger) (e : Event) (mandate collection : Option ℕ) (i j : ℕ) (r : Result Unit Refusal) (l'' : Ledger)
+      → l' ≡ l → fit l ≡ true → checked e ≡ (Ok tt)
+      → mandate ≡ named_mandate e → IfSome mandate (λ n. i ≡ first_row mandates l'.mandates n)
+      → collection ≡ named_collection e → IfSome collection (λ n. j ≡ first_row collections l'.collections n)
+      → ActedFrom i j l e r l'' → Taken l e r l''
+  taken_by_index l' e mandate collection i j r l'' same f w p q s t d =
+      taken_from l e i j r l'' f w
+      (named_start mandates l.mandates l.mandates_used e.mandate i (names_mandate e.kind) mandate p (rw same at q) (mandates_from e.mandate))
+      (named_start collections l.collections l.collections_used e.a j (names_collection e.kind) collection s (rw same at t) (collections_from e.a))
+      d
 
   -- it stays so: an event keeps safe memory safe, and the rows that the indexes cover
   pub known_kept : (l' : Ledger) (e : Event) → l' ≡ after l e → ∥ Known safe mandates collections l' ∥₁
@@ -146,7 +176,7 @@ module _ (text out : List ℕ) where
   pub answered_end : (s : Run) (at : ℕ) (l : Ledger) (p : Progress) (out' : List ℕ)
       → AnsweredTo s text out at l p out'
       → ((j : ℕ) → at ≤ j → j < length text → get_or text j 0 ≢ line_end)
-      → LinesAnswered s text out (record { lines = p.lines; written = p.written; at = at }) l out'
+      → LinesAnswered s text out (record { progress = p; at = at }) l out'
   answered_end s at l p out' t none =
       let q = rest_output text at none s l p.lines (text_output s (take at text)) t.answered in
       record {
@@ -168,13 +198,10 @@ partial_length text at filled n h k e =
 pub partial_kept : (text : List ℕ) (at filled n : ℕ) → at ≤ filled → filled ≤ length text → n ≡ min (filled - at) clipped_length
     → copy_within text at (at + n) 0 ≡ pasted 0 (clipped (drop at (take filled text))) text
 partial_kept text at filled n h k e =
-    ap (λ (m : ℕ). take m (drop at text) ++ drop (0 + m) text) (back at n)
+    ap (λ (m : ℕ). take m (drop at text) ++ drop (0 + m) text) (add-sub_cancel_left at n)
     ∙ ap (λ (x : List ℕ). x ++ drop (0 + n) text) kept_same
     ∙ ap (λ (m : ℕ). clipped (drop at (take filled text)) ++ drop (0 + m) text) (partial_length text at filled n h k e)
   where
-    back : (a b : ℕ) → a + b - a ≡ b
-    back a b = omega arith
-
     kept_same : take n (drop at text) ≡ clipped (drop at (take filled text))
     kept_same =
         let d = drop at text in

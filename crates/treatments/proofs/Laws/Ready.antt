@@ -9,7 +9,6 @@ use native.Mathlib.Omega.{arith}
 use borrow.Author.Tests.{leb-true, lt-ltb}
 use lib.IntN.{ℤ, pos, nat_abs}
 use lib.ListN.{length, get_or}
-use Rattle.common.proofs.Tests.{never}
 use Rattle.calendar.specs.Gregorian.{in_range, is_date}
 use Rattle.calendar.specs.DayNumber.{day_number}
 use Rattle.calendar.specs.Periods.{days_between}
@@ -66,7 +65,7 @@ record Refundable (amount rate settled date : ℕ) : Type 0 where
 -- the rate of a refund, 0 of another undoing
 abbrev pub rate_of : Way → ℕ
 rate_of ByReturn = 0
-rate_of (ByRefund rate code) = rate
+rate_of (ByRefund rate authorisation) = rate
 rate_of ByReversal = 0
 
 module _ {amount rate settled date : ℕ} (r : Refundable amount rate settled date) where
@@ -82,7 +81,7 @@ module _ {amount rate settled date : ℕ} (r : Refundable amount rate settled da
 
 undone_is : (way : Way) (amount settled date : ℕ) → Refundable amount (rate_of way) settled date → undone_of way amount settled date ≡ Some (undone way amount settled date)
 undone_is ByReturn amount settled date r = reversed_of_is amount r.limits.high
-undone_is (ByRefund rate code) amount settled date r =
+undone_is (ByRefund rate authorisation) amount settled date r =
     ap (refund_after amount rate) (days_are r)
     ∙ ap (refund_for amount) (cents_are r)
     ∙ (refunded_of_is amount (compensation amount rate (days_since settled date)) r.limits.high
@@ -114,7 +113,7 @@ undone_size :
     → AtMost position_limit (undone way amount settled date)
 undone_size ByReturn amount settled date r =
     larger_sizes (omega (arith, r.limits.high)) (reversed_size amount)
-undone_size (ByRefund rate code) amount settled date r =
+undone_size (ByRefund rate authorisation) amount settled date r =
     let k = compensation amount rate (days_since settled date) in
     let h = compensation_bound amount rate (days_since settled date) r.limits.high r.limits.rated r.limits.dated in
     larger_sizes (omega (arith, h, r.limits.high)) (refunded_size amount k)
@@ -236,7 +235,7 @@ module _ (l : Ledger) (date number : ℕ) (t : Treatment) (f : fit l ≡ true) (
       → Goes l date (found_row found) t (collection_at l.collections (found_row found)) (effect l date (Treat number t))
   unfolding k
   by_found None e q =
-      absurd (never (judged_passes (treat_checks l.latest date t false (collection_at l.collections 0)) refl q 2) refl)
+      absurd (cc (judged_passes (treat_checks l.latest date t false (collection_at l.collections 0)) refl q 2))
   by_found (Some row) e q =
       let passed = judged_passes (treat_checks l.latest date t (used_row l.collections l.collections_used (Some row)) (collection_at l.collections row)) refl q in
       goes l date number row e f (leb-true l.latest date (passed 0)) t a (passed 3) (passed 5)

@@ -1,6 +1,9 @@
 -- Laws of specs/Treatments: what is written for a verdict. To cite: `sum_fits`, `amount_back`, `paid_within`, `written`.
 -- Assumes nothing.
-use Rattle.std.proofs.Common.{ℕ}
+use Rattle.std.proofs.Common.{ℕ, Result, Ok, Err}
+use Rattle.std.proofs.lemmas.Int.{ints}
+use Rattle.refusals.specs.declared.Refusal.{Refusal}
+use Rattle.treatments.specs.declared.verdicts.Verdict.{Verdict}
 use mathlib.Core.Path.{◌≡◌}
 use mathlib.Core.Bool.{Bool, true}
 use mathlib.Core.List.{List, [], ◌∷◌}
@@ -11,28 +14,26 @@ use mir.Syntax.{w64}
 use mir.Val.{SFits, to_z, of_z}
 use Rattle.common.proofs.Tests.{all_of_at}
 use Rattle.positions.specs.Positions.{HasEntry, position_limit, has_entry, position, posted, in_limit}
-use Rattle.positions.specs.Answers.{after_post}
+use Rattle.positions.specs.Answers.{post_answer, after_post}
 use Rattle.positions.specs.declared.Postings.{Postings}
-use Rattle.positions.proofs.Laws.Integers.{size_add, size_fits, bits_back, within_size}
+use Rattle.positions.proofs.Laws.Integers.{within_size}
 use Rattle.positions.proofs.Laws.Positions.{has_entry_entry, entry_posted, size_posted}
 use Rattle.positions.proofs.Laws.Answers.{post_fits}
 use Rattle.tables.specs.declared.Collection.{Collection}
 use Rattle.tables.specs.declared.Header.{Header}
 use Rattle.tables.specs.Ledger.{ledger}
 use Rattle.tables.specs.Rows.{put_collection}
-use Rattle.treatments.specs.Treatments.{held, postable, header_after, pay_effect}
+use Rattle.checking.specs.Calls.{verdict_by}
+use Rattle.treatments.specs.Treatments.{held, postable, header_after, pay_effect, by_answer}
 
 -- ---- two signed numbers, as 64 bits hold them
 
 module _ (a b : ℤ) (p : in_limit position_limit a ≡ true) (q : in_limit position_limit b ≡ true) where
   pub sum_fits : SFits w64 (to_z w64 (of_z w64 a) +ℤ to_z w64 (of_z w64 b))
-  sum_fits =
-      let m = within_size position_limit a p in
-      let n = within_size position_limit b q in
-      rw (bits_back a (omega arith), bits_back b (omega arith)) (size_fits (a +ℤ b) (omega (arith, size_add a b)))
+  sum_fits = grind (arith, ints)
 
 pub amount_back : (a : ℤ) → in_limit position_limit a ≡ true → to_z w64 (of_z w64 a) ≡ a
-amount_back a p = let m = within_size position_limit a p in bits_back a (omega arith)
+amount_back a p = grind (arith, ints)
 
 -- ---- amounts that can be posted
 
@@ -84,11 +85,39 @@ module _ (k : Collection) (p : Postings) (total : ℤ) (cp dp bp : List ℤ) (h 
 
 -- ---- what is written
 
--- a posting within the limit, to a table not far beyond it
-post_is :
+-- a posting within the limit, to a table not far beyond it, is made
+posting_is :
     (l : List ℤ) (k : ℕ) (x : ℤ) → HasEntry l k → nat_abs (position l k) ≤ 2 * position_limit → nat_abs x ≤ position_limit
-    → after_post l k x ≡ posted l k x
-post_is l k x e h g = (post_fits l k x e (omega arith) (omega arith)).1
+    → (post_answer l k x ≡ Ok tt) × (after_post l k x ≡ posted l k x)
+posting_is l k x e h g = post_fits l k x e (omega arith) (omega arith)
+
+module _ (k : Collection) (p : Postings) (total : ℤ) (cp dp bp : List ℤ) (h : postable k p total cp dp bp ≡ true) where
+  pub creditor_posted : (post_answer cp k.creditor p.creditor ≡ Ok tt) × (after_post cp k.creditor p.creditor ≡ posted cp k.creditor p.creditor)
+  creditor_posted =
+      let f = (paid_within k p total cp dp bp h).creditor in
+      posting_is cp k.creditor p.creditor f.entry (omega (arith, f.small)) f.amount
+
+  pub debtor_posted : (post_answer dp k.debtor p.debtor ≡ Ok tt) × (after_post dp k.debtor p.debtor ≡ posted dp k.debtor p.debtor)
+  debtor_posted =
+      let f = (paid_within k p total cp dp bp h).debtor in
+      posting_is dp k.debtor p.debtor f.entry (omega (arith, f.small)) f.amount
+
+  pub dbank_posted : (post_answer bp k.dbank p.dbank ≡ Ok tt) × (after_post bp k.dbank p.dbank ≡ posted bp k.dbank p.dbank)
+  dbank_posted =
+      let f = (paid_within k p total cp dp bp h).dbank in
+      posting_is bp k.dbank p.dbank f.entry (omega (arith, f.small)) f.amount
+
+  -- the debtor's bank may be the creditor's
+  pub cbank_posted : (mid : List ℤ) → mid ≡ after_post bp k.dbank p.dbank
+      → (post_answer mid k.cbank p.cbank ≡ Ok tt) × (after_post mid k.cbank p.cbank ≡ posted (posted bp k.dbank p.dbank) k.cbank p.cbank)
+  cbank_posted mid e =
+      let f = paid_within k p total cp dp bp h in
+      let room = size_posted bp k.dbank k.cbank p.dbank in
+      rw (e, dbank_posted.1)
+      (posting_is (posted bp k.dbank p.dbank) k.cbank p.cbank
+      (entry_posted bp k.dbank k.cbank p.dbank f.cbank.entry)
+      (omega (arith, room, f.cbank.small, f.dbank.amount))
+      f.cbank.amount)
 
 pub written :
     (h : Header) (date row : ℕ) (k : Collection) (p : Postings) (cs : List ℕ) (cp dp bp : List ℤ)
@@ -99,15 +128,24 @@ pub written :
     → mid ≡ after_post bp k.dbank u → bp' ≡ after_post mid k.cbank v → r ≡ header_after h date w
     → (m c : List ℕ) → ledger r m cs' c cp' dp' bp' ≡ pay_effect row date k p (ledger h m cs c cp dp bp)
 written h date row k p cs cp dp bp s r cs' cp' dp' mid bp' x y u v w ex ey eu ev ew ec ecp edp emid ebp er m c =
-    let f = paid_within k p h.compensation cp dp bp s in
-    let creditors = post_is cp k.creditor p.creditor f.creditor.entry (omega (arith, f.creditor.small)) f.creditor.amount in
-    let debtors = post_is dp k.debtor p.debtor f.debtor.entry (omega (arith, f.debtor.small)) f.debtor.amount in
-    let first = post_is bp k.dbank p.dbank f.dbank.entry (omega (arith, f.dbank.small)) f.dbank.amount in
-    let room = size_posted bp k.dbank k.cbank p.dbank in
-    let second =
-    post_is (posted bp k.dbank p.dbank) k.cbank p.cbank
-    (entry_posted bp k.dbank k.cbank p.dbank f.cbank.entry)
-    (omega (arith, room, f.cbank.small, f.dbank.amount))
-    f.cbank.amount
-    in
-    rw (er, ec, ecp, edp, ebp, emid, ex, ey, eu, ev, ew, creditors, debtors, first, second)
+    let total = h.compensation in
+    rw (
+      er,
+      ec,
+      ecp,
+      edp,
+      ebp,
+      ex,
+      ey,
+      ev,
+      ew,
+      (creditor_posted k p total cp dp bp s).1,
+      (debtor_posted k p total cp dp bp s).1,
+      (cbank_posted k p total cp dp bp s mid (rw eu at emid)).1,
+    )
+
+-- ---- the verdict where a test refuses
+
+pub judged_refused : (a : Result Unit Refusal) (k : Collection) (v : Result Verdict Refusal) (r : Refusal) → verdict_by a k ≡ Err r → by_answer a v ≡ Err r
+judged_refused (Ok tt) k v r e = absurd cc
+judged_refused (Err x) k v r e = cc

@@ -1,9 +1,8 @@
 -- `book::event::take_event` meets its contract: the memory first, then the limits, then the event is acted on. Assumes nothing.
 use Rattle.std.proofs.Common.{◌≡◌, Err, rules, sym, ap, ◌∙◌}
-use Rattle.tables.specs.Ledger.{ledger_of, ledger_in}
-use Rattle.tables.proofs.Laws.Lookup.{lookup_since_first}
+use Rattle.tables.specs.Ledger.{ledger_in}
 use Rattle.fitness.specs.Fitness.{fit}
-use Rattle.book.proofs.Laws.Events.{found_in_view, acted_taken, taken_unfit, taken_refused}
+use Rattle.book.proofs.Laws.Events.{taken_first, taken_unfit, taken_refused}
 use Rattle.book.proofs.event.take_event.Goals as goal
 
 pub returns-then-not-is_fit-clause-taken : goal.returns-then-not-is_fit-clause-taken
@@ -17,13 +16,4 @@ returns-in_err-check-clause-taken c =
 
 pub returns-clause-taken : goal.returns-clause-taken
 returns-clause-taken c =
-    let a = c.args in
-    let b = a.book.now in
-    acted_taken (ledger_in b) a.e _ _ _ _ (sym (c.is_fit.ensures ∙ ap fit c.view.ensures) ∙ c.if-not-is_fit.false)
-    (sym c.check.ensures.answer ∙ c.in_ok-check.was)
-    (found_in_view a.e (ledger_of c.view-view.result) (ledger_in b) _ _ 0 0 c.view-view.ensures
-    (lookup_since_first b.mandates.now b.header.mandates a.e.mandate)
-    (lookup_since_first b.collections.now b.header.collections a.e.a)
-    c.find_mandate-mandate.ensures
-    c.find_collection-collection.ensures)
-    c.act.ensures.acted
+    taken_first _ _ _ _ (sym (c.is_fit.ensures ∙ ap fit c.view.ensures) ∙ c.if-not-is_fit.false) (sym c.check.ensures.answer ∙ c.in_ok-check.was) c.act_from.ensures.acted

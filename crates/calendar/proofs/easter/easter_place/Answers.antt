@@ -14,13 +14,13 @@ place y l md h e f = rw (f, e) (easter_facts y h.0 h.1).place
 
 pub overflow_sub-result : goal.overflow_sub-result
 overflow_sub-result c =
-    let i = rw c.year.view_is at c.year.invariant in
-    omega (arith, c.easter_in-md.ensures, (easter_facts c.args.year i.0 i.1).march)
+    let i = c.easter_in-md.ensures.inside in
+    omega (arith, c.easter_in-md.ensures.date, (easter_facts c.args.year i.0 i.1).march)
 
 pub returns-then-md-lt400 : goal.returns-then-md-lt400
 returns-then-md-lt400 c =
-    rw (lt-ltb _ _ c.if-md-lt400.true) at (place _ _ _ (rw c.year.view_is at c.year.invariant) c.leap_day-l.ensures c.easter_in-md.ensures)
+    rw (lt-ltb _ _ c.if-md-lt400.true) at (place _ _ _ c.easter_in-md.ensures.inside c.leap_day-l.ensures c.easter_in-md.ensures.date)
 
 pub returns-else-md-lt400 : goal.returns-else-md-lt400
 returns-else-md-lt400 c =
-    rw (le-ltb _ _ c.if-md-lt400.false) at (place _ _ _ (rw c.year.view_is at c.year.invariant) c.leap_day-l.ensures c.easter_in-md.ensures)
+    rw (le-ltb _ _ c.if-md-lt400.false) at (place _ _ _ c.easter_in-md.ensures.inside c.leap_day-l.ensures c.easter_in-md.ensures.date)

@@ -7,4 +7,4 @@ use Rattle.digits.proofs.reading.head.Given as goal
 abbrev pub invariant-loop-b : goal.invariant-loop-b
 invariant-loop-b l =
     (l.v < 10 ^ l.b-index)
-    × ((s : List ℕ) → 0 < length s → onward l.v (drop l.b-index l.b-items ++ s) ≡ read_field (l.b-items ++ s))
+    × ((s : List ℕ) → 0 < length s → onward l.v (drop l.b-index l.columns ++ s) ≡ read_field (l.columns ++ s))

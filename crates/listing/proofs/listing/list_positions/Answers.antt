@@ -28,4 +28,4 @@ returns c =
     let f = c.list_kind-banks.ensures in
     let g = c.list_kind-total.ensures in
     listing_done book c.args.out.now (listed_when _ _ _ _ c.is_fit.ensures c.if-not-is_fit-out.false) _ _ e.place e.bytes _ _ f.place f.bytes _ _ g.place g.bytes
-    _ _ refl c.position_line.ensures.bytes
+    _ _ refl (rw c.from.ensures at c.position_line.ensures.bytes)

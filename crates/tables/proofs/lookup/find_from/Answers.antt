@@ -1,16 +1,13 @@
--- `tables::lookup::find_from` meets its contract. The loop: the walk from row i on has the answer of the walk from the first row
--- on. Assumes nothing.
-use Rattle.common.proofs.Walk.{first_from_hit, first_from_miss, first_from_end}
-use borrow.Author.Tests.{eq-eqb, ne_eqb}
-use mathlib.Core.Path.{sym, ◌∙◌}
-use borrow.Author.Rules.{rules}
+use Rattle.std.proofs.Common.{rules, arith, refl, ◌-◌}
+use borrow.Author.Tests.{tests}
+use Rattle.std.proofs.lemmas.Iterator.{YieldsList-from_range}
+use Rattle.std.proofs.lemmas.Iterator.Search.{find_from_yields_List}
+use Rattle.tables.specs.Lookup.{number_is}
+use Rattle.tables.proofs.Laws.Lookup.{found_in_range}
 use Rattle.tables.proofs.lookup.find_from.Goals as goal
 
-pub returns-then-cells-i : goal.returns-then-cells-i
-returns-then-cells-i c = sym (first_from_hit _ _ _ _ _ (search rules) (eq-eqb _ _ c.if-cells-i.true)) ∙ c.loop-i.invariant
-
-pub loop-i-preserved : goal.loop-i-preserved
-loop-i-preserved c = sym (first_from_miss _ _ _ _ _ (search rules) (ne_eqb _ _ c.if-cells-i.false)) ∙ c.loop-i.invariant
-
 pub returns : goal.returns
-returns c = sym (first_from_end _ _ _ _ _ (search rules)) ∙ c.loop-i.invariant
+returns c =
+    let a = c.args in
+    found_in_range (number_is a.cells.now a.number) a.from (a.n - a.from) _
+    (find_from_yields_List (number_is a.cells.now a.number) _ _ _ c.find.ensures.ran (YieldsList-from_range a.from a.n (a.n - a.from) refl (omega arith)) (λ x b q k. (search rules, search (rules, tests))))

@@ -12,9 +12,9 @@ pub loop-end-preserved : goal.loop-end-preserved
 loop-end-preserved c =
     let here = c.loop-end.invariant in
     record {
-      book = c.end_line-p.ensures.book ∙ here.book;
-      same = loans_then _ _ _ here.same c.end_line-p.ensures.loans;
-      answered = answered_line _ _ _ _ _ (end_from_at _ _ _ (sym c.line_end.ensures ∙ c.in-Some.is)) _ _ _ _ _ _ _ here.answered refl c.end_line-p.ensures.answered;
+      book = c.end_line-progress.ensures.book ∙ here.book;
+      same = loans_then _ _ _ here.same c.end_line-progress.ensures.loans;
+      answered = answered_line _ _ _ _ _ (end_from_at _ _ _ (sym c.line_end.ensures ∙ c.in-Some.is)) _ _ _ _ _ _ _ here.answered refl c.end_line-progress.ensures.answered;
     }
 
 pub returns-clause-answered : goal.returns-clause-answered

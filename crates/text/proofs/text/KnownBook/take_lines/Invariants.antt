@@ -8,7 +8,7 @@ abbrev pub invariant-loop-end : goal.invariant-loop-end
 invariant-loop-end l = record {
   book : l.self.book.ghost_name ≡ l.initial.self.book.ghost_name;
   same : SameLoans l.initial.self.book.now l.self.book.now;
-  answered : AnsweredTo (run_at (ledger_in l.initial.self.book.now) l.lines []) l.text l.initial.out l.at (ledger_in l.self.book.now) l.p l.out;
+  answered : AnsweredTo (run_at (ledger_in l.initial.self.book.now) l.lines []) l.text l.initial.out l.at (ledger_in l.self.book.now) l.progress l.out;
 }
 
 abbrev pub decreases-loop-end : goal.decreases-loop-end
