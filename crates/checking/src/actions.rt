@@ -1,6 +1,6 @@
 // What an event asks for, by its kind and its fields: the model's specs/Actions.
 ghost use Rattle.std.specs.Prelude.{◌≡◌};
-ghost use Rattle.model.specs.Actions.{new_mandate, amendment, presentation, authorisation, action_of};
+ghost use Rattle.model.specs.Actions.{new_mandate, amendment, presentation, action_of};
 
 use events::Event;
 use model::{Action, Authorisation, Change, Presentation, Treatment, Way};
@@ -48,17 +48,6 @@ fn presentation_of(e: Event) -> Presentation
     }
 }
 
-// What the code of event 9 tells: 0 authorised, 1 unauthorised.
-fn authorisation_of(code: u64) -> Authorisation
-    ensures { result ≡ authorisation code }
-{
-    if code == 0 {
-        Authorisation::Authorised
-    } else {
-        Authorisation::Unauthorised
-    }
-}
-
 // What an event asks for.
 #[tactic(auto, unfolding(model::specs::Actions::action_of))]
 pub fn action_of(e: Event) -> Action
@@ -74,7 +63,7 @@ pub fn action_of(e: Event) -> Action
         7 => Action::Treat(e.a, Treatment::Reject),
         8 => Action::Treat(e.a, Treatment::Undo(Way::ByReturn)),
         9 => {
-            let way = Way::ByRefund(e.b, authorisation_of(e.code));
+            let way = Way::ByRefund(e.b, Authorisation::from(e.code));
             Action::Treat(e.a, Treatment::Undo(way))
         }
         // 10; an event of any other kind is refused by 3 before this is asked, or is acted on as a reversal

@@ -149,7 +149,7 @@ pub extern "C" fn kalanhav_replay(
     )
 }
 
-// A position in cents, written to its cell: book's `position`. 0, or 2 or 5, where nothing changes.
+// A position in cents, written to its cell: book's `position`. The kind is a number, as C has it. 0, or 2 or 5, where nothing changes.
 #[unsafe(no_mangle)]
 pub extern "C" fn kalanhav_position(
     state: &[u64],

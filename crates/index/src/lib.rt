@@ -15,7 +15,7 @@ const SLOTS: usize = 4096;
 const ROWS: usize = COLLECTION_ROWS;
 
 // The first row of each slot, for each row the next one of its slot, and the rows that are covered. Rows are linked by their numbers, and no
-// map holds them: there is no heap. They are counted from 1 with 0 for none: an Option of each would take twice the room.
+// map holds them: there is no heap. They are counted from 1 with 0 for none: an Option at each of the places that read or write a link is no shorter.
 #[derive(Clone, Copy, Debug, PartialEq, Eq)]
 pub struct Index {
     pub first: [u16; SLOTS],

@@ -32,7 +32,8 @@ const TEXT: usize = 262_144;
 const OUT: usize = 2_621_440;
 
 // How far a run is: the lines answered, the bytes of the partial line at the front of the text, the bytes of answers to be
-// written, and whether there is input beyond the last line that is answered.
+// written, and whether there is input beyond the last line that is answered. With a `Piece` and a flag in it each of the first three would be a
+// name further off.
 #[derive(Clone, Copy)]
 struct Stage {
     lines: u64,

@@ -31,6 +31,21 @@ pub enum Authorisation {
     Unauthorised,
 }
 
+// What the code of a refund tells: 0 authorised, any other unauthorised.
+impl From<u64> for Authorisation {
+    ghost use Rattle.std.specs.Prelude.{◌≡◌};
+    ghost use Rattle.model.specs.Actions.{authorisation};
+
+    ghost from_gives = { λ code a. a ≡ authorisation code };
+
+    fn from(code: u64) -> Authorisation {
+        match code {
+            0 => Authorisation::Authorised,
+            _ => Authorisation::Unauthorised,
+        }
+    }
+}
+
 // How a settled collection is undone, a refund at its rate.
 #[derive(Clone, Copy)]
 pub enum Way {

@@ -80,7 +80,7 @@ fn judge_collect(
     Ok((m, kept))
 }
 
-// FNAL and OOFF, codes 2 and 3, close the mandate.
+// FNAL and OOFF, codes 2 and 3, close the mandate. The code is a number, as in `Presentation`.
 fn standing_after(code: u64, standing: Standing) -> Standing
     ensures { result ≡ standing_after code standing }
 {

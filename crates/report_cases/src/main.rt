@@ -12,7 +12,7 @@ fn answer(rt: &impl Print, number: u64, answer: u64) -> io::Result<()> {
     rt.write_all(&out)
 }
 
-// A position line alone; its kind is any number that a caller may give.
+// A position line alone. Its kind is a number, as `position_line` takes it.
 fn position(rt: &impl Print, kind: u64, number: u64, cents: i64) -> io::Result<()> {
     let mut out = [b'#'; 27];
     layout::position_line(&mut out, 0, kind, number, cents);

@@ -405,7 +405,7 @@ fn head(latest: u64, mandates: usize, collections: usize, compensation: i64) -> 
     }
 }
 
-// A mandate of any code that a cell may hold.
+// A mandate. Its code is a number, as a row has it.
 fn mandate(number: u64, code: u64) -> Mandate {
     Mandate {
         number,

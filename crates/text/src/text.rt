@@ -40,7 +40,9 @@ pub struct Piece {
 }
 
 // The lent tables, and what was tested and made once for a piece: whether they are safe, and an index of each, which holds of unsafe ones
-// too. The fact stands between bars since there may be more than one table of before that an index was made of.
+// too: with an Option of both in place of `safe` the check loses what the tables end as. The fact stands between bars since there may be more than
+// one table of before that an index was made of. That the book stays the one that was lent is in four contracts: it speaks of before and after,
+// which no field can.
 #[derive(Drop)]
 struct KnownBook<'b, 'a, 'i> {
     book: &'b mut BookMut<'a>,
