@@ -8,6 +8,7 @@ ghost use Rattle.book.specs.Acting.{names_mandate, names_collection, named_manda
 use checking::actions::action_of;
 use events::Event;
 use model::Action;
+use records::MandatesMut;
 use records::collects::collect;
 use records::creditors::add_creditor;
 use records::mandates::{add_mandate, change_mandate};
@@ -56,13 +57,23 @@ pub fn act(
     ensures acted { ActedOn mandate collection (ledger_in book.old) e.date (action_of e) result (ledger_in book.new) }
 {
     let date = e.date;
-    match action_of(e) {
-        Action::AddCreditor(number, bank) => add_creditor(book, date, number, bank),
-        Action::AddMandate(m) => add_mandate(book, date, m, mandate),
-        Action::ChangeMandate(_, change) => change_mandate(book, date, change, mandate),
-        Action::Collect(p) => collect(book, date, p, mandate, collection),
-        Action::Treat(_, t) => treat(book, date, t, collection),
-    }
+    // In variables, and all by `&mut`: beside a field that is lent to be changed no other can be read.
+    let header = book.header;
+    let creditors = &mut *book.creditors;
+    let mut lent = MandatesMut {
+        header,
+        mandates: book.mandates,
+        creditors,
+    };
+    let answer = match action_of(e) {
+        Action::AddCreditor(number, bank) => return add_creditor(book, date, number, bank),
+        Action::Treat(_, t) => return treat(book, date, t, collection),
+        Action::AddMandate(m) => add_mandate(&mut lent, date, m, mandate),
+        Action::ChangeMandate(_, change) => change_mandate(&mut lent, date, change, mandate),
+        Action::Collect(p) => collect(&mut lent, book.collections, date, p, mandate, collection),
+    };
+    book.header = lent.header;
+    answer
 }
 
 // The same, where the rows of what it names are looked for from a row on in each table.

@@ -1,5 +1,5 @@
 // The rules of document 01 over the whole ledger, and the theorem over every list of events: see specs/ and proofs/.
-// Here are only the types of what is asked and of the answers.
+// Here are only the types of what is asked, with the conversions of its codes and kinds.
 #![tactic(auto)]
 
 use refusals::Refusal;

@@ -1,13 +1,13 @@
 -- Events 1 to 5 by the rows that were found of what they name: refusals 6 to 14 that concern each, in checking order, and the ledger
 -- where it is accepted. That they are the model's where the rows are those of the numbers: proofs/Laws/Records. Assumes nothing.
-use Rattle.std.specs.Prelude.{Bool, cond, not, ◌&&◌, List, [], ◌∷◌, ℕ, ◌-◌, leb, ltb, length, set, Option, Result, Ok, Err}
+use Rattle.std.specs.Prelude.{Bool, cond, not, ◌&&◌, List, [], ◌∷◌, ℕ, ◌-◌, leb, ltb, ℤ, length, set, Option, Result, Ok, Err}
 use Rattle.common.specs.Checks.{Check, check, judged}
 use Rattle.refusals.specs.declared.Refusal.{Refusal}
 use Rattle.refusals.specs.declared.Refusal.TheVariants.{BeforeLatest, AlreadyExists, DoesNotExist, NoRowLeft, NotLive, WrongSequence, BadTiming, Lapsed}
 use Rattle.tables.specs.declared.Mandate.{Mandate}
 use Rattle.tables.specs.declared.Standing.{Standing}
 use Rattle.tables.specs.declared.Standing.TheVariants.{Closed}
-use Rattle.tables.specs.Ledger.{Ledger, added}
+use Rattle.tables.specs.Ledger.{Ledger, ledger, added}
 use Rattle.tables.specs.Rows.{rows, mandate_at}
 use Rattle.model.specs.declared.Change.{Change}
 use Rattle.model.specs.declared.Presentation.{Presentation}
@@ -15,6 +15,13 @@ use Rattle.model.specs.Deadlines.{kept_due, timely, lapsed_for}
 use Rattle.model.specs.Checks.{in_order, change_names, stands_live, takes}
 use Rattle.model.specs.Effects.{dated, with_creditors, keep_mandate, add_mandate, add_collection, changed, closes, presented_on, new_collection}
 use Rattle.checking.specs.Calls.{is_found, used_row, found_row, Done}
+use Rattle.records.specs.declared.MandatesMut.{MandatesMut}
+
+-- ---- what is lent to events 2 to 5
+
+-- with any collections and positions besides
+abbrev pub ledger_with : MandatesMut → List ℕ → List ℤ → List ℤ → List ℤ → Ledger
+ledger_with a c cp dp bp = ledger a.header a.mandates.now c a.creditors.now cp dp bp
 
 -- ---- event 1
 

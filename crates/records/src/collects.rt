@@ -1,12 +1,12 @@
 // Event 5: a collection is presented.
-ghost use Rattle.std.specs.Prelude.{◌≡◌};
-ghost use Rattle.tables.specs.Ledger.{ledger_in, SameLoans};
+ghost use Rattle.std.specs.Prelude.{◌≡◌, List, [], ℤ};
 ghost use Rattle.model.specs.Checks.{takes};
 ghost use Rattle.model.specs.Deadlines.{kept_due};
 ghost use Rattle.model.specs.Effects.{presented_on, new_collection};
 ghost use Rattle.checking.specs.Calls.{verdict_by};
-ghost use Rattle.records.specs.Records.{mandate_in, collect_answer, standing_after, Collected};
+ghost use Rattle.records.specs.Records.{ledger_with, mandate_in, collect_answer, standing_after, Collected};
 
+use crate::MandatesMut;
 use crate::mandates::{is_live, mandate_in, mandate_there};
 use checking::found_row;
 use deadlines::collects::{is_lapsed, is_timely, kept_due};
@@ -15,7 +15,7 @@ use refusals::{Refusal, ensure};
 use std::marker::Model;
 use tables::creditors::bank_of;
 use tables::rows::{put_record, rows_of};
-use tables::{BookMut, Collection, Mandate, Standing, State};
+use tables::{Collection, Mandate, Standing, State};
 
 // A presentation with its kept due, which is worked out once. Clauses see the presentation.
 #[derive(Clone, Copy)]
@@ -53,20 +53,21 @@ fn takes_code(m: Mandate, code: u64) -> bool
 
 // The verdict on a collect: the mandate, and what is presented with its kept due. The dates are worked out only where nothing refuses before.
 fn judge_collect(
-    book: &BookMut,
+    lent: &MandatesMut,
+    collections: &[u64],
     date: u64,
     p: Presentation,
     mandate: Option<usize>,
     collection: Option<usize>,
 ) -> Result<(Mandate, KeptPresentation), Refusal>
-    ensures { result ≡ verdict_by (collect_answer mandate collection (ledger_in book.now) date p) (mandate_in mandate (ledger_in book.now), p) }
+    ensures { result ≡ verdict_by (collect_answer mandate collection (ledger_with lent.now collections.now [] [] []) date p) (mandate_in mandate (ledger_with lent.now collections.now [] [] []), p) }
 {
-    ensure(book.header.latest <= date, Refusal::BeforeLatest)?;
+    ensure(lent.header.latest <= date, Refusal::BeforeLatest)?;
     ensure(collection.is_none(), Refusal::AlreadyExists)?;
-    ensure(mandate_there(book, mandate), Refusal::DoesNotExist)?;
-    let m = mandate_in(book, mandate);
+    ensure(mandate_there(lent, mandate), Refusal::DoesNotExist)?;
+    let m = mandate_in(lent, mandate);
     ensure(
-        book.header.collections < rows_of(book.collections),
+        lent.header.collections < rows_of(collections),
         Refusal::NoRowLeft,
     )?;
     ensure(is_live(m.standing), Refusal::NotLive)?;
@@ -105,14 +106,14 @@ fn presented_on(p: KeptPresentation, m: Mandate) -> Mandate
 
 // The collection, with the parties and both banks as they are now.
 #[tactic(auto, unfolding(model::specs::Effects::new_collection))]
-fn new_collection(book: &BookMut, p: KeptPresentation, m: Mandate) -> Collection
-    ensures { result ≡ new_collection book.now.creditors.now p m }
+fn new_collection(creditors: &[u64], p: KeptPresentation, m: Mandate) -> Collection
+    ensures { result ≡ new_collection creditors.now p m }
 {
     Collection {
         number: p.asked.collection,
         creditor: m.creditor,
         debtor: m.debtor,
-        cbank: bank_of(book.creditors, m.creditor),
+        cbank: bank_of(creditors, m.creditor),
         dbank: m.bank,
         amount: p.asked.amount,
         due: p.due,
@@ -122,21 +123,22 @@ fn new_collection(book: &BookMut, p: KeptPresentation, m: Mandate) -> Collection
 
 // Event 5: the collection goes into the next row, and the mandate into its own. `mandate` and `collection` are the rows of their numbers.
 pub fn collect(
-    book: &mut BookMut,
+    lent: &mut MandatesMut,
+    collections: &mut [u64],
     date: u64,
     p: Presentation,
     mandate: Option<usize>,
     collection: Option<usize>,
 ) -> Result<(), Refusal>
-    ensures loans { SameLoans book.old book.new }
-    ensures collected { Collected mandate collection (ledger_in book.old) date p result (ledger_in book.new) }
+    ensures loans { lent.new.mandates.ghost_name ≡ lent.old.mandates.ghost_name }
+    ensures collected { (cp dp bp : List ℤ) → Collected mandate collection (ledger_with lent.old collections.old cp dp bp) date p result (ledger_with lent.new collections.new cp dp bp) }
 {
-    let (m, kept) = judge_collect(book, date, p, mandate, collection)?;
-    let used = book.header.collections;
-    let c = new_collection(book, kept, m);
-    put_record(book.mandates, found_row(mandate), presented_on(kept, m));
-    put_record(book.collections, used, c);
-    book.header.latest = date;
-    book.header.collections = used + 1;
+    let (m, kept) = judge_collect(lent, collections, date, p, mandate, collection)?;
+    let used = lent.header.collections;
+    let c = new_collection(lent.creditors, kept, m);
+    put_record(lent.mandates, found_row(mandate), presented_on(kept, m));
+    put_record(collections, used, c);
+    lent.header.latest = date;
+    lent.header.collections = used + 1;
     Ok(())
 }

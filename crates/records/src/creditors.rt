@@ -12,8 +12,8 @@ fn judge_creditor(book: &BookMut, date: u64, number: u64) -> Result<(), Refusal>
 {
     ensure(book.header.latest <= date, Refusal::BeforeLatest)?;
     ensure(!is_added(book.creditors, number), Refusal::AlreadyExists)?;
-    let exists = (1 <= number) & (number <= book.creditors.len() as u64);
-    ensure(exists, Refusal::DoesNotExist)
+    let in_table = (1 <= number) & (number <= book.creditors.len() as u64);
+    ensure(in_table, Refusal::DoesNotExist)
 }
 
 // The bank of a creditor of the table.

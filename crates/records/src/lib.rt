@@ -5,3 +5,14 @@
 pub mod collects;
 pub mod creditors;
 pub mod mandates;
+
+use tables::Header;
+
+// What events 2 to 5 act on: the mandates, lent to be changed, and the creditors, lent to be read; event 5 is lent the collections beside. What
+// they promise holds whatever the other tables are. That the mandates stay lent is each call's own promise, as at `BookMut` of tables.
+#[derive(Drop)]
+pub struct MandatesMut<'a> {
+    pub header: Header,
+    pub mandates: &'a mut [u64],
+    pub creditors: &'a [u64],
+}

@@ -21,6 +21,7 @@ fn open(book: &mut BookMut) -> Result<(), Refusal>
     ensures loans { SameLoans book.old book.new }
     ensures opening { open_result (answer_number result) (ledger_in book.new) ≡ opening (ledger_in book.old) }
 {
+    // In variables, and by `&mut`: beside a field that is lent to be changed no other can be read.
     let mandates = &mut *book.mandates;
     let collections = &mut *book.collections;
     open_ledger(

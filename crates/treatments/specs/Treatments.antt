@@ -21,7 +21,7 @@ use Rattle.model.specs.declared.Treatment.{Treatment}
 use Rattle.model.specs.declared.Treatment.TheVariants.{Settle, Reject, Undo}
 use Rattle.model.specs.Checks.{settled_on, day_treated, state_fits, due_treated, time_treated}
 use Rattle.model.specs.Effects.{dated, keep_collection, with_postings, treated}
-use Rattle.checking.specs.Calls.{used_row, found_row, verdict_by, Done}
+use Rattle.checking.specs.Calls.{used_row, found_row, Done}
 use Rattle.treatments.specs.declared.verdicts.Verdict.{Verdict}
 use Rattle.treatments.specs.declared.verdicts.Verdict.TheVariants.{Mark, Post}
 use Rattle.calendar.specs.declared.CalendarDays.{CalendarDays}
@@ -70,12 +70,7 @@ go_verdict Reject date k = Ok (Mark (treated Reject date k))
 go_verdict (Undo way) date k =
     post_verdict (treated (Undo way) date k) (undone_of way k.amount (settled_on k.state) date)
 
--- what the tests of the collection in the row that was found say, or that collection
-abbrev pub judged_on : Option ℕ → Ledger → ℕ → Treatment → Result Collection Refusal
-judged_on found l date t =
-    let k = collection_at l.collections (found_row found) in
-    verdict_by (treat_judged l.latest date t (used_row l.collections l.collections_used found) k) k
-
+-- refused, or what goes where no test refuses
 abbrev pub by_answer : Result Unit Refusal → Result Verdict Refusal → Result Verdict Refusal
 by_answer (Ok tt) v = v
 by_answer (Err r) v = Err r
@@ -135,6 +130,11 @@ header_after h date cents = record {
 }
 
 -- ---- the call
+
+-- the collection in the row that was found, if that is a used one
+abbrev pub collection_in : Option ℕ → Ledger → Option Collection
+collection_in found l =
+    cond (used_row l.collections l.collections_used found) (Some (collection_at l.collections (found_row found))) None
 
 abbrev pub verdict_at : Option ℕ → Ledger → ℕ → Treatment → Result Verdict Refusal
 verdict_at found l date t =

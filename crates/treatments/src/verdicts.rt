@@ -1,9 +1,11 @@
-// The verdict on an event of kind 6 to 10: refusals 6 to 17 in their order, or all that is to be written. It reads alone.
+// The verdict on an event of kind 6 to 10: refusals 6 to 17 in their order, 2 for amounts that no fit table has, or all that is to be written. It
+// reads alone.
 ghost use Rattle.std.specs.Prelude.{◌≡◌};
+ghost use Rattle.std.specs.Option.{is_some, unwrap_or};
 ghost use Rattle.model.specs.Checks.{is_presented, is_settled, settled_on, day_treated, state_fits, due_treated, time_treated};
 ghost use Rattle.model.specs.Effects.{state_after, treated as treatedBy};
 ghost use Rattle.tables.specs.Ledger.{ledger_in};
-ghost use Rattle.treatments.specs.Treatments.{judged_on, post_verdict, go_verdict, verdict_at};
+ghost use Rattle.treatments.specs.Treatments.{post_verdict, go_verdict, verdict_on, collection_in, verdict_at};
 
 use crate::undoing::undone;
 use calendar::target::is_business_day;
@@ -16,7 +18,7 @@ use refusals::{Refusal, ensure};
 use tables::rows::record_at;
 use tables::{BookMut, Collection, State, Undoing};
 
-// Write the collection to its row, alone or with the amounts to post.
+// The verdict where nothing refuses: write the collection to its row, alone or with the amounts to post.
 #[derive(Clone, Copy)]
 pub enum Verdict {
     Mark(Collection),
@@ -106,27 +108,6 @@ fn treated(t: Treatment, date: u64, k: Collection) -> Collection
     }
 }
 
-// Refusals 6 to 17, or the collection in the row that was found. The last day is worked out only where nothing refuses before.
-#[tactic(auto, unfolding(tables::specs::Rows::collection_at))]
-fn judge(
-    book: &BookMut,
-    date: u64,
-    t: Treatment,
-    found: Option<usize>,
-) -> Result<Collection, Refusal>
-    ensures { result ≡ judged_on found (ledger_in book.now) date t }
-{
-    ensure(book.header.latest <= date, Refusal::BeforeLatest)?;
-    ensure(day_fits(t, date), Refusal::NotBusinessDay)?;
-    let there = is_used(found, book.collections, book.header.collections);
-    ensure(there, Refusal::DoesNotExist)?;
-    let k: Collection = record_at(book.collections, found_row(found));
-    ensure(state_fits(t, k.state), Refusal::WrongState)?;
-    ensure(due_fits(t, k.due, date), Refusal::BeforeDue)?;
-    ensure(time_fits(t, k.state, date), Refusal::AfterLastDay)?;
-    Ok(k)
-}
-
 // The verdict to post; no row of a fit table has amounts outside their limits, at a rate within its own.
 fn post_verdict(k: Collection, p: Option<Postings>) -> Result<Verdict, Refusal>
     ensures { result ≡ post_verdict k p }
@@ -149,8 +130,35 @@ fn go_verdict(t: Treatment, date: u64, k: Collection) -> Result<Verdict, Refusal
     }
 }
 
+// The verdict on the collection, if there is one. The last day is worked out only where nothing refuses before.
+pub fn verdict_on(
+    latest: u64,
+    date: u64,
+    t: Treatment,
+    collection: Option<Collection>,
+) -> Result<Verdict, Refusal>
+    ensures { (any : Collection) → result ≡ verdict_on latest date t (is_some collection) (unwrap_or collection any) }
+{
+    ensure(latest <= date, Refusal::BeforeLatest)?;
+    ensure(day_fits(t, date), Refusal::NotBusinessDay)?;
+    let k = collection.ok_or(Refusal::DoesNotExist)?;
+    ensure(state_fits(t, k.state), Refusal::WrongState)?;
+    ensure(due_fits(t, k.due, date), Refusal::BeforeDue)?;
+    ensure(time_fits(t, k.state, date), Refusal::AfterLastDay)?;
+    go_verdict(t, date, k)
+}
+
+// The collection in the row that was found, if that is a used one.
+#[tactic(auto, unfolding(tables::specs::Rows::collection_at))]
+fn collection_in(book: &BookMut, found: Option<usize>) -> Option<Collection>
+    ensures { result ≡ collection_in found (ledger_in book.now) }
+{
+    let there = is_used(found, book.collections, book.header.collections);
+    there.then(|| record_at(book.collections, found_row(found)))
+}
+
 // The verdict on the collection in the row that was found.
-pub fn verdict_at(
+pub(crate) fn verdict_at(
     book: &BookMut,
     date: u64,
     t: Treatment,
@@ -158,6 +166,5 @@ pub fn verdict_at(
 ) -> Result<Verdict, Refusal>
     ensures { result ≡ verdict_at found (ledger_in book.now) date t }
 {
-    let k = judge(book, date, t, found)?;
-    go_verdict(t, date, k)
+    verdict_on(book.header.latest, date, t, collection_in(book, found))
 }

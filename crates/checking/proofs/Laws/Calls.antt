@@ -1,5 +1,5 @@
 -- Laws of specs/Calls: an action that is refused leaves the ledger, one that is accepted has its effect and passed every test.
--- To cite: `done_refused`, `done_accepted`, `done_same`, `judged_passes`, `judged_then`. Assumes nothing.
+-- To cite: `done_refused`, `done_accepted`, `done_same`, `done_beside`, `judged_passes`, `judged_then`. Assumes nothing.
 use Rattle.std.proofs.Common.{Err, Ok, Result}
 use Rattle.std.specs.Result.{is_err}
 use mathlib.Core.Bool.{Bool, true, false, cond}
@@ -34,6 +34,19 @@ done_same answer answer' l changed changed' r l' e f d = record {
     by_answer : (a : Result Unit Refusal) → answer ≡ a → after_answer answer changed l ≡ after_answer answer changed' l
     by_answer (Ok tt) q = rw q (f q)
     by_answer (Err x) q = rw q
+
+-- the same with other tables in every ledger, which no test reads and no effect changes
+pub done_beside :
+    (other : Ledger → Ledger) (answer : Result Unit Refusal) (l changed : Ledger) (r : Result Unit Refusal) (l' : Ledger)
+    → Done answer l changed r l' → Done answer (other l) (other changed) r (other l')
+done_beside other answer l changed r l' d = record {
+  answer_is = d.answer_is;
+  after_is = ap other d.after_is ∙ by_answer answer;
+}
+  where
+    by_answer : (a : Result Unit Refusal) → other (after_answer a changed l) ≡ after_answer a (other changed) (other l)
+    by_answer (Ok tt) = refl
+    by_answer (Err x) = refl
 
 -- two lists after one another: the second is looked at where the first refuses nothing
 pub judged_then : (cs ds : List (Check (Result Unit Refusal))) → all_refuse cs ≡ true → judged (cs ++ ds) (Ok tt) ≡ then_ruled (judged cs (Ok tt)) (judged ds (Ok tt))

@@ -9,8 +9,8 @@ use Rattle.refusals.specs.declared.Refusal.{Refusal}
 use Rattle.refusals.specs.Refusals.{number_of}
 use Rattle.tables.specs.declared.Header.{Header}
 use Rattle.tables.specs.Ledger.{Ledger, ledger}
-use Rattle.opening.specs.Opening.{OpenResult, open_result, opening, fresh}
-use Rattle.opening.proofs.Laws.Opening.{opening_refused, opened_done}
+use Rattle.opening.specs.Opening.{open_result, opening, fresh}
+use Rattle.opening.proofs.Laws.Opening.{opened_done}
 use Rattle.model.proofs.Laws.Opened.{was_opened, was_refused}
 use Rattle.cells.specs.Cells.{cells_fit, header_in, fresh_header, fresh_state, fresh_cents, head_of}
 use Rattle.cells.proofs.Laws.Cells.{state_cells_fit_lem, fresh_state_lem, fresh_cents_lem}

@@ -13,7 +13,7 @@ use Rattle.refusals.specs.Refusals.{answer_number}
 use Rattle.refusals.specs.declared.Refusal.TheVariants.{BadLine, UnfitMemory, UnknownKind, BadDate, BadField}
 use Rattle.events.specs.declared.Event.{Event}
 use Rattle.events.proofs.Laws.Numbers.{by_limits, limit_number_lem}
-use Rattle.events.specs.Limits.{within, kinds, fields_fit, limit_checks, checked}
+use Rattle.events.specs.Limits.{within, kinds, fields_fit, checked}
 use Rattle.lines.specs.Line.{widths, event_of, columns, line_length, line_end, Fields, Values, Unreadable, read_fields, answer_of, taken, read_line, write_answer, fields_number, reader_number, writer_number}
 
 -- ---- the reader

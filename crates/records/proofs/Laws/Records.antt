@@ -1,5 +1,5 @@
 -- Laws of specs/Records: what a verdict on a collect says, and that answers and effects are the model's where the rows are those of
--- the numbers. To cite: `verdict_go`, `collected_refused`, `collected_done`; `creditor_ruled`, `mandate_ruled`, `change_ruled`,
+-- the numbers. To cite: `verdict_go`, `collected_refused`, `collected_done`; `creditor_beside`; `creditor_ruled`, `mandate_ruled`, `change_ruled`,
 -- `collect_ruled`. Assumes nothing.
 use Rattle.std.proofs.Common.{Err, None, Ok, Option, Result, Some, ℕ}
 use mathlib.Core.Path.{◌≡◌, refl, sym}
@@ -8,11 +8,12 @@ use mathlib.Core.List.{List}
 use Prim.Native.Nat.{ℕ, ◌≤◌}
 use borrow.Author.Tests.{le-leb, lt-ltb}
 use lib.Dec.{ltb}
-use native.Mathlib.Omega.{arith}
+use lib.IntN.{ℤ}
 use lib.ListN.{length}
 use Rattle.refusals.specs.declared.Refusal.{Refusal}
 use Rattle.tables.specs.declared.Mandate.{Mandate}
-use Rattle.tables.specs.Ledger.{Ledger}
+use Rattle.tables.specs.declared.BookMut.{BookMut}
+use Rattle.tables.specs.Ledger.{Ledger, ledger, ledger_in}
 use Rattle.tables.specs.Lookup.{existing, lookup}
 use Rattle.tables.proofs.Laws.Lookup.{lookup_at}
 use Rattle.tables.specs.Rows.{rows, mandate_at, collection_at}
@@ -22,9 +23,8 @@ use Rattle.model.specs.declared.Presentation.{Presentation}
 use Rattle.model.specs.Lookups.{is_known, in_row, mandate_of, collection_of}
 use Rattle.model.specs.Checks.{ruled}
 use Rattle.model.specs.Effects.{effect, dated, keep_mandate, add_collection, presented_on, new_collection}
-use Rattle.tables.specs.declared.Mandate.{Mandate}
 use Rattle.checking.specs.Calls.{is_found, used_row, found_row, verdict_by, Done}
-use Rattle.checking.proofs.Laws.Calls.{done_refused, done_accepted, done_same, judged_passes}
+use Rattle.checking.proofs.Laws.Calls.{done_refused, done_accepted, done_same, done_beside, judged_passes}
 use Rattle.records.specs.Records.{mandate_in, CreditorAdded, MandateAdded, change_checks, change_answer, change_effect, MandateChanged, collect_checks, collect_answer, collect_effect, Collected}
 
 -- ---- the verdict on a collect
@@ -51,6 +51,23 @@ module _ (mandate collection : Option ℕ) (l : Ledger) (date : ℕ) (p : Presen
   collected_done v l' e f =
       let w = verdict_go (collect_answer mandate collection l date p) (mandate_in mandate l, p) v e in
       done_accepted _ _ _ l' w.0 (rw w.1 at f)
+
+-- ---- event 1, whatever tables there are besides the creditors
+
+pub creditor_beside :
+    (a b : BookMut) (date number bank : ℕ) (r : Result Unit Refusal) → CreditorAdded (ledger_in a) date number bank r (ledger_in b)
+    → (m c : List ℕ) (cp dp bp : List ℤ)
+    → CreditorAdded (ledger a.header m c a.creditors.now cp dp bp) date number bank r (ledger b.header m c b.creditors.now cp dp bp)
+creditor_beside a b date number bank r d m c cp dp bp =
+    done_beside
+    (λ l. record l {
+      mandates = m;
+      collections = c;
+      creditor_positions = cp;
+      debtor_positions = dp;
+      bank_positions = bp;
+    })
+    _ _ _ r _ d
 
 -- ---- the model's answers and effects
 

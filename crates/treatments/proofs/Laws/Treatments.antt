@@ -1,11 +1,12 @@
--- Laws of specs/Treatments: what is written for a verdict. To cite: `sum_fits`, `amount_back`, `paid_within`, `written`.
--- Assumes nothing.
-use Rattle.std.proofs.Common.{ℕ, Result, Ok, Err}
+-- Laws of specs/Treatments: what is written for a verdict, and under which other tables. To cite: `sum_fits`, `amount_back`, `paid_within`,
+-- `creditor_posted` and the like, `written`, `found_verdict`, `treated_beside`. Assumes nothing.
+use Rattle.std.proofs.Common.{ℕ, Option, Some, None, is_some, unwrap_or, Result, Ok, Err}
 use Rattle.std.proofs.lemmas.Int.{ints}
 use Rattle.refusals.specs.declared.Refusal.{Refusal}
 use Rattle.treatments.specs.declared.verdicts.Verdict.{Verdict}
-use mathlib.Core.Path.{◌≡◌}
-use mathlib.Core.Bool.{Bool, true}
+use Rattle.treatments.specs.declared.verdicts.Verdict.TheVariants.{Mark, Post}
+use mathlib.Core.Path.{◌≡◌, refl}
+use mathlib.Core.Bool.{Bool, true, false, cond}
 use mathlib.Core.List.{List, [], ◌∷◌}
 use Prim.Native.Nat.{ℕ, ◌*◌, ◌≤◌}
 use native.Mathlib.Omega.{arith}
@@ -21,10 +22,13 @@ use Rattle.positions.proofs.Laws.Positions.{has_entry_entry, entry_posted, size_
 use Rattle.positions.proofs.Laws.Answers.{post_fits}
 use Rattle.tables.specs.declared.Collection.{Collection}
 use Rattle.tables.specs.declared.Header.{Header}
-use Rattle.tables.specs.Ledger.{ledger}
+use Rattle.tables.specs.declared.BookMut.{BookMut}
+use Rattle.tables.specs.Ledger.{Ledger, ledger, ledger_in}
 use Rattle.tables.specs.Rows.{put_collection}
-use Rattle.checking.specs.Calls.{verdict_by}
-use Rattle.treatments.specs.Treatments.{held, postable, header_after, pay_effect, by_answer}
+use Rattle.model.specs.declared.Treatment.{Treatment}
+use Rattle.checking.specs.Calls.{found_row}
+use Rattle.checking.proofs.Laws.Calls.{done_same, done_beside}
+use Rattle.treatments.specs.Treatments.{held, postable, header_after, pay_effect, answer_for, effect_for, verdict_on, verdict_at, Treated}
 
 -- ---- two signed numbers, as 64 bits hold them
 
@@ -144,8 +148,40 @@ written h date row k p cs cp dp bp s r cs' cp' dp' mid bp' x y u v w ex ey eu ev
       (cbank_posted k p total cp dp bp s mid (rw eu at emid)).1,
     )
 
--- ---- the verdict where a test refuses
+-- ---- the verdict on a collection that is found or not
 
-pub judged_refused : (a : Result Unit Refusal) (k : Collection) (v : Result Verdict Refusal) (r : Refusal) → verdict_by a k ≡ Err r → by_answer a v ≡ Err r
-judged_refused (Ok tt) k v r e = absurd cc
-judged_refused (Err x) k v r e = cc
+pub found_verdict :
+    (latest date : ℕ) (t : Treatment) (there : Bool) (k : Collection) (found : Option Collection) → found ≡ cond there (Some k) None
+    → verdict_on latest date t (is_some found) (unwrap_or found k) ≡ verdict_on latest date t there k
+found_verdict latest date t true k found e = rw e
+found_verdict latest date t false k found e = rw e
+
+-- ---- whatever mandates and creditors there are besides
+
+with_records : List ℕ → List ℕ → Ledger → Ledger
+with_records m c l = record l { mandates = m; creditors = c }
+
+module _ (m c : List ℕ) (l : Ledger) where
+  answer_beside : (v : Result Verdict Refusal) → answer_for v l ≡ answer_for v (with_records m c l)
+  unfolding with_records
+  answer_beside (Err r) = refl
+  answer_beside (Ok (Mark k)) = refl
+  answer_beside (Ok (Post k p)) = refl
+
+  effect_beside : (v : Result Verdict Refusal) (row date : ℕ) → with_records m c (effect_for v row date l) ≡ effect_for v row date (with_records m c l)
+  unfolding with_records
+  effect_beside (Err r) row date = refl
+  effect_beside (Ok (Mark k)) row date = refl
+  effect_beside (Ok (Post k p)) row date = refl
+
+pub treated_beside :
+    (a b : BookMut) (found : Option ℕ) (date : ℕ) (t : Treatment) (r : Result Unit Refusal) → Treated found (ledger_in a) date t r (ledger_in b)
+    → (m c : List ℕ)
+    → Treated found (ledger a.header m a.collections.now c a.creditor_positions.now a.debtor_positions.now a.bank_positions.now) date t r
+    (ledger b.header m b.collections.now c b.creditor_positions.now b.debtor_positions.now b.bank_positions.now)
+unfolding with_records
+treated_beside a b found date t r d m c =
+    let l = ledger_in a in
+    let v = verdict_at found l date t in
+    done_same _ _ _ _ _ r _ (answer_beside m c l v) (λ _. effect_beside m c l v (found_row found) date)
+    (done_beside (with_records m c) _ l _ r (ledger_in b) d)

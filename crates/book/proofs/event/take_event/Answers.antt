@@ -1,6 +1,5 @@
 -- `book::event::take_event` meets its contract: the memory first, then the limits, then the event is acted on. Assumes nothing.
 use Rattle.std.proofs.Common.{◌≡◌, Err, rules, sym, ap, ◌∙◌}
-use Rattle.tables.specs.Ledger.{ledger_in}
 use Rattle.fitness.specs.Fitness.{fit}
 use Rattle.book.proofs.Laws.Events.{taken_first, taken_unfit, taken_refused}
 use Rattle.book.proofs.event.take_event.Goals as goal

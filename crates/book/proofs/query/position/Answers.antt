@@ -1,5 +1,5 @@
 -- `book::query::position` meets its contract: the memory first, then the kind, the number, and the figure. Assumes nothing.
-use Rattle.std.proofs.Common.{◌≡◌, true, Ok, Err, rules, refl, sym, ap, ◌∙◌}
+use Rattle.std.proofs.Common.{◌≡◌, true, Err, rules, refl, sym, ◌∙◌}
 use Rattle.common.proofs.Checks.{check_passes}
 use Rattle.tables.specs.Ledger.{ledger_of}
 use Rattle.fitness.specs.Fitness.{fit}

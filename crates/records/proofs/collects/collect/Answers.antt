@@ -3,10 +3,10 @@ use Rattle.records.proofs.Laws.Records.{collected_refused, collected_done}
 use Rattle.records.proofs.collects.collect.Goals as goal
 
 pub returns-in_err-m-clause-collected : goal.returns-in_err-m-clause-collected
-returns-in_err-m-clause-collected c =
+returns-in_err-m-clause-collected c = λ cp dp bp.
     collected_refused _ _ _ _ _ _ c.in_err-m.field-0.0 _ (sym c.judge_collect.ensures ∙ c.in_err-m.was) (search rules)
 
 pub returns-clause-collected : goal.returns-clause-collected
-returns-clause-collected c =
+returns-clause-collected c = λ cp dp bp.
     collected_done _ _ _ _ _ (c.in_ok-m.m, c.in_ok-m.kept) _ (sym c.judge_collect.ensures ∙ c.in_ok-m.was)
     (rw (c.put_record.ensures, c.put_record-2.ensures, c.presented_on.ensures, c.new_collection-c.ensures, c.found_row.ensures))

@@ -1,5 +1,5 @@
 use Rattle.std.proofs.Common.{refl, ap, ◌∙◌}
-use Rattle.positions.specs.Answers.{post_answer, after_post}
+use Rattle.positions.specs.Answers.{after_post}
 use Rattle.treatments.proofs.Laws.Treatments.{amount_back, paid_within, creditor_posted, debtor_posted, dbank_posted, cbank_posted, written}
 use Rattle.treatments.proofs.treat.write.Goals as goal
 
