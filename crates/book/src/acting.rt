@@ -57,7 +57,7 @@ pub fn act(
     ensures acted { ActedOn mandate collection (ledger_in book.old) e.date (action_of e) result (ledger_in book.new) }
 {
     let date = e.date;
-    // In variables, and all by `&mut`: beside a field that is lent to be changed no other can be read.
+    // In variables, and the creditors by `&mut`: beside a field that is lent to be changed no other can be read.
     let header = book.header;
     let creditors = &mut *book.creditors;
     let mut lent = MandatesMut {

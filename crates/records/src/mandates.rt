@@ -35,6 +35,7 @@ pub(crate) fn mandate_in(lent: &MandatesMut, found: Option<usize>) -> Mandate
     record_at(lent.mandates, found_row(found))
 }
 
+// Refusals 6 to 10 of a new mandate. No test reads the collections or a position, and so the clause has none.
 fn judge_mandate(
     lent: &MandatesMut,
     date: u64,
@@ -80,7 +81,7 @@ fn names_added(change: Change, creditors: &[u64]) -> bool
     }
 }
 
-// Refusals 6 to 11 of a change of the mandate in the row that was found, or that mandate.
+// Refusals 6 to 11 of a change of the mandate in the row that was found, or that mandate. No other table is read, as above.
 fn judge_change(
     lent: &MandatesMut,
     date: u64,

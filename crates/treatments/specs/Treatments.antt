@@ -131,11 +131,7 @@ header_after h date cents = record {
 
 -- ---- the call
 
--- the collection in the row that was found, if that is a used one
-abbrev pub collection_in : Option ℕ → Ledger → Option Collection
-collection_in found l =
-    cond (used_row l.collections l.collections_used found) (Some (collection_at l.collections (found_row found))) None
-
+-- on the collection in the row that was found, which is there where it is a used row
 abbrev pub verdict_at : Option ℕ → Ledger → ℕ → Treatment → Result Verdict Refusal
 verdict_at found l date t =
     verdict_on l.latest date t (used_row l.collections l.collections_used found) (collection_at l.collections (found_row found))

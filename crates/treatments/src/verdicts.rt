@@ -1,11 +1,13 @@
 // The verdict on an event of kind 6 to 10: refusals 6 to 17 in their order, 2 for amounts that no fit table has, or all that is to be written. It
 // reads alone.
-ghost use Rattle.std.specs.Prelude.{◌≡◌};
+ghost use Rattle.std.specs.Prelude.{◌≡◌, cond, Some, None};
 ghost use Rattle.std.specs.Option.{is_some, unwrap_or};
 ghost use Rattle.model.specs.Checks.{is_presented, is_settled, settled_on, day_treated, state_fits, due_treated, time_treated};
 ghost use Rattle.model.specs.Effects.{state_after, treated as treatedBy};
 ghost use Rattle.tables.specs.Ledger.{ledger_in};
-ghost use Rattle.treatments.specs.Treatments.{post_verdict, go_verdict, verdict_on, collection_in, verdict_at};
+ghost use Rattle.tables.specs.Rows.{collection_at};
+ghost use Rattle.checking.specs.Calls.{used_row, found_row};
+ghost use Rattle.treatments.specs.Treatments.{post_verdict, go_verdict, verdict_on, verdict_at};
 
 use crate::undoing::undone;
 use calendar::target::is_business_day;
@@ -130,7 +132,7 @@ fn go_verdict(t: Treatment, date: u64, k: Collection) -> Result<Verdict, Refusal
     }
 }
 
-// The verdict on the collection, if there is one. The last day is worked out only where nothing refuses before.
+// The verdict on the collection, if there is one; if not, `any` counts for nothing. The last day is worked out only where nothing refuses before.
 pub fn verdict_on(
     latest: u64,
     date: u64,
@@ -151,7 +153,7 @@ pub fn verdict_on(
 // The collection in the row that was found, if that is a used one.
 #[tactic(auto, unfolding(tables::specs::Rows::collection_at))]
 fn collection_in(book: &BookMut, found: Option<usize>) -> Option<Collection>
-    ensures { result ≡ collection_in found (ledger_in book.now) }
+    ensures { result ≡ cond (used_row book.now.collections.now book.now.header.collections found) (Some (collection_at book.now.collections.now (found_row found))) None }
 {
     let there = is_used(found, book.collections, book.header.collections);
     there.then(|| record_at(book.collections, found_row(found)))
