@@ -12,15 +12,16 @@ from fractions import Fraction
 AMOUNT, RATE, DAYS, CAPACITY = 10**11 - 1, 9999, 999, 4 * 10**18
 
 
-def compensation(amount, rate, days):
-    """K in cents, a half cent going up. The rate is in hundredths of a percent of a year of 360 days."""
-    share = Fraction(rate, 100 * 100) * Fraction(days, 360)
-    return math.floor(amount * share + Fraction(1, 2))
+def compensation(date, amount, rate, days):
+    """K in cents. The rate is in hundredths of a percent of a year of 360 days. A half cent goes up until the end of 2025, and from 2026 on
+    to the even cent, as `round` has it of a fraction: document 02, (b)."""
+    cents = amount * Fraction(rate, 100 * 100) * Fraction(days, 360)
+    return round(cents) if date >= 2026_01_01 else math.floor(cents + Fraction(1, 2))
 
 
-def compensated(amount, rate, days):
+def compensated(date, amount, rate, days):
     inside = 1 <= amount <= AMOUNT and rate <= RATE and days <= DAYS
-    return compensation(amount, rate, days) if inside else "outside"
+    return compensation(date, amount, rate, days) if inside else "outside"
 
 
 def products(amount, rate, days):
@@ -49,8 +50,9 @@ def moves(call, numbers):
 
 
 def amounts(call, amount, cents=0):
-    """Debtor, creditor, debtor bank, creditor bank, total compensation: "Postings" of document 01."""
-    if amount > AMOUNT or cents > compensation(AMOUNT, RATE, DAYS):
+    """Debtor, creditor, debtor bank, creditor bank, total compensation: "Postings" of document 01. The largest compensation is that of the
+    older rule, which gives no less than the other."""
+    if amount > AMOUNT or cents > compensation(0, AMOUNT, RATE, DAYS):
         return ["outside"]
     if call == "settlement":
         return [-amount, amount, -amount, amount, 0]
@@ -63,16 +65,22 @@ def integers(text):
     return [int(n) for n in re.findall(r"-?\d+", text)]
 
 
+def constant(text, name):
+    """What stands between the brackets of an array."""
+    return re.search(rf"const {name}: [^=]*= \[(.*?)\];", text, re.S).group(1)
+
+
 def rows(text, name):
     """The tuples of numbers of a constant."""
-    return [integers(row) for row in re.findall(r"\(([-\d,\s]+)\)", re.search(rf"const {name}: [^=]*= \[(.*?)\];", text, re.S).group(1))]
+    return [integers(row) for row in re.findall(r"\(([-\d,\s]+)\)", constant(text, name))]
 
 
 def main():
     with open("crates/positions_cases/src/main.rt", encoding="utf-8") as file:
         text = file.read()
+    dates = integers(constant(text, "DATES"))
     for case in rows(text, "CASES"):
-        print(*case, compensated(*case))
+        print(*case, *(compensated(date, *case) for date in dates))
         print(*case, products(*case))
     for case in rows(text, "LIMITS"):
         print(*case, products(*case))

@@ -5,6 +5,7 @@ pub mod Sound  -- an event within its limits, and what its acceptance says
 pub mod Effects  -- what an effect is where the row of its number is known
 pub mod Accepted  -- what acceptance says, and the ledger after an event by its answer
 pub mod Limits  -- the limits of the rules are dates
+pub mod Refunds  -- what a refund posts, by the rule of its date
 pub mod Wordings  -- the journal's words and the step's say the same
 pub mod Agree  -- a ledger and a journal that agree
 pub mod KeptMandates  -- events 1 to 5 keep the agreement

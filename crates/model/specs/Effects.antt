@@ -149,10 +149,10 @@ state_after (Undo way) date = Undone date (undoing_of way)
 unfoldable pub treated : Treatment → ℕ → Collection → Collection
 treated t date k = with_state k (state_after t date)
 
--- what an undoing posts, with the calendar days since the settled day
+-- what an undoing posts, a refund by the rule of its own date and with the calendar days since the settled day
 abbrev pub undone : Way → ℕ → ℕ → ℕ → Postings
 undone ByReturn amount settled date = reversed amount
-undone (ByRefund rate authorisation) amount settled date = refunded amount (compensationFor amount rate (days_since settled date))
+undone (ByRefund rate authorisation) amount settled date = refunded amount (compensationFor date amount rate (days_since settled date))
 undone ByReversal amount settled date = reversed amount
 
 -- a settle, return, refund or reversal posts; a reject does not

@@ -1,12 +1,12 @@
 -- Document 01, "The journal": worked out from events and whether each was accepted; no table comes into it. Each bullet is said
 -- by the fields of the event and takes no rule from the ledger's step: neither how an action is read off the fields, nor what an
--- effect does, nor what is posted. Shared are the calendar, compensation as a function of numbers, and the standings of a mandate.
+-- effect does, nor what is posted. Shared are the calendar, interest and rounding as functions of numbers, and the standings of a mandate.
 -- proofs/Laws/Wordings has the law that an event within its limits is noted as the step would have it. Assumes nothing.
-use Rattle.std.specs.Prelude.{Bool, cond, ◌||◌, List, [], ◌∷◌, ℕ, ◌+◌, ◌-◌, eqb, ℤ, pos, neg_ℤ, ◌+ℤ◌, Option, Some, None}
+use Rattle.std.specs.Prelude.{Bool, cond, ◌||◌, List, [], ◌∷◌, ℕ, ◌+◌, ◌-◌, eqb, ltb, ℤ, pos, neg_ℤ, ◌+ℤ◌, Option, Some, None}
 use Rattle.calendar.specs.DayNumber.{day_number}
 use Rattle.calendar.specs.Target.{first_business_day}
 use Rattle.events.specs.declared.Event.{Event}
-use Rattle.positions.specs.Compensation.{compensation as compensationFor}
+use Rattle.positions.specs.Compensation.{interest, half_up, half_even}
 use Rattle.tables.specs.declared.Standing.{Standing}
 use Rattle.tables.specs.declared.Standing.TheVariants.{Live, Closed, Cancelled}
 use Rattle.model.specs.Lookups.{Known}
@@ -220,9 +220,16 @@ unfoldable pub note_refund : Journal → NotedCollection → ℕ → Journal
 note_refund j k paid =
     adding j k (pos k.amount) (neg_ℤ (pos (k.amount + paid))) (pos (k.amount + paid)) (neg_ℤ (pos (k.amount + paid))) (pos paid)
 
--- K, by the rate in the event and the calendar days that went by since S
+-- the interest of A at the rate in the event, for the calendar days that went by since S
+abbrev pub interest_on : Event → NotedCollection → ℕ
+interest_on e k = interest k.amount e.b (day_number e.date - day_number k.settled)
+
+-- K in whole cents: an exact half goes up in a refund dated before 2026, and to the even cent in a later one
 unfoldable pub paid_on : Event → NotedCollection → ℕ
-paid_on e k = compensationFor k.amount e.b (day_number e.date - day_number k.settled)
+paid_on e k =
+    cond (ltb e.date 20260101)
+    (half_up (interest_on e k) 3600000)
+    (half_even (interest_on e k) 3600000)
 
 -- an undoing needs the collection and its S
 abbrev pub needing_settled : Journal → Event → (NotedCollection → Journal) → Journal

@@ -1,13 +1,15 @@
 -- Demand 3, "a single claim about the whole list, not one for each event" ("The journal"). `Demand3` is the statement;
 -- `Kept` has its parts, in the order in which they are demanded. proofs/Laws/Theorem has the proof.
--- Then `AgreesFromAnyStart`, the claim about lists that start on any tables, and what is promised of one call: `Timing`, `MandatesNotAsked`,
--- `UnusedRows`, and the answers in numbers. Assumes nothing.
-use Rattle.std.specs.Prelude.{◌≡◌, true, cond, ◌&&◌, List, [], ◌∷◌, ◌++◌, ℕ, zero, suc, ◌+◌, ◌*◌, ◌≤◌, eqb, ℤ, pos, ◌+ℤ◌, length, get_or, Option, Some, Ok}
+-- Then `AgreesFromAnyStart`, the claim about lists that start on any tables, and what is promised of one call: `Timing`, `RefundsDated`,
+-- `MandatesNotAsked`, `UnusedRows`, and the answers in numbers. Assumes nothing.
+use Rattle.std.specs.Prelude.{◌≡◌, true, cond, ◌&&◌, List, [], ◌∷◌, ◌++◌, ℕ, zero, suc, ◌+◌, ◌*◌, ◌<◌, ◌≤◌, eqb, ℤ, pos, ◌+ℤ◌, length, get_or, Option, Some, Ok}
 use Rattle.calendar.specs.Gregorian.{in_range}
 use Rattle.calendar.specs.Target.{first_business_day, last_business_day_before}
 use Rattle.calendar.specs.Periods.{days_after, business_days_after, months_after, and_then}
 use Rattle.events.specs.declared.Event.{Event}
 use Rattle.common.specs.Tests.{among}
+use Rattle.positions.specs.Compensation.{half_up, half_even}
+use Rattle.positions.specs.Postings.{refunded}
 use Rattle.tables.specs.Limits.{creditor_count, debtor_count, bank_count, stride}
 use Rattle.tables.specs.declared.Header.{Header}
 use Rattle.tables.specs.Ledger.{Ledger, ledger, bank_of}
@@ -16,10 +18,14 @@ use Rattle.opening.specs.Opening.{opening, opened}
 use Rattle.tables.specs.declared.Standing.TheVariants.{Live}
 use Rattle.model.specs.declared.Treatment.{Treatment}
 use Rattle.model.specs.declared.Action.TheVariants.{Treat}
-use Rattle.model.specs.Deadlines.{kept_due, timely}
+use Rattle.model.specs.declared.Authorisation.{Authorisation}
+use Rattle.model.specs.declared.Authorisation.TheVariants.{Authorised}
+use Rattle.model.specs.declared.Way.TheVariants.{ByRefund}
+use Rattle.model.specs.Deadlines.{kept_due, timely, days_since}
 use Rattle.model.specs.Lookups.{mandate_of, collection_of}
 use Rattle.model.specs.Lookups.Known.{known}
 use Rattle.model.specs.Checks.{ruled}
+use Rattle.model.specs.Effects.{undone}
 use Rattle.model.specs.Step.{answer_number, answer, event_number, after, in_query, figure_of, query, answered, run, Entry, history}
 use Rattle.model.specs.Journal.{NotedMandate, NotedCollection, Journal, journal_from, journal, figure_in}
 use Rattle.model.specs.Noted.{noted_known, SameKnown, started}
@@ -160,6 +166,24 @@ pub record PassesInGoodTime (date requested : ℕ) : Type 0 where
 abbrev pub Timing : Type 0
 Timing =
     (date requested : ℕ) → in_range date ≡ true → in_range requested ≡ true → PassesInGoodTime date requested
+
+-- ---- what a refund posts
+
+-- document 02, (b): the date of the refund decides how its K is rounded, whatever the amount, the rate, the settled day and the code
+pub record RefundsDated : Type 0 where
+  pub before_2026 :
+      (rate amount settled date : ℕ) (code : Authorisation)
+      → date < 20260101
+      → undone (ByRefund rate code) amount settled date
+      ≡ refunded amount (half_up (amount * rate * days_since settled date) 3600000)
+  pub from_2026 :
+      (rate amount settled date : ℕ) (code : Authorisation)
+      → 20260101 ≤ date
+      → undone (ByRefund rate code) amount settled date
+      ≡ refunded amount (half_even (amount * rate * days_since settled date) 3600000)
+  -- 5,000 cents settled on 20251229: 1 day at 360 and 4 days at 90 come to half a cent each
+  pub one_day : undone (ByRefund 360 Authorised) 5000 20251229 20251230 ≡ refunded 5000 1
+  pub four_days : undone (ByRefund 90 Authorised) 5000 20251229 20260102 ≡ refunded 5000 0
 
 -- ---- what a collection is treated by
 

@@ -6,7 +6,7 @@ use Rattle.common.specs.Checks.{Check, check, judged}
 use Rattle.refusals.specs.declared.Refusal.{Refusal}
 use Rattle.refusals.specs.Refusals.{answer_number}
 use Rattle.refusals.specs.declared.Refusal.TheVariants.{BadField}
-use Rattle.positions.specs.Compensation.{amount_limit, rate_limit, days_limit, parts_of_cent, interest, half_up, compensation_of}
+use Rattle.positions.specs.Compensation.{amount_limit, rate_limit, days_limit, parts_of_cent, interest, rounded, compensation_of}
 
 -- ---- the products
 
@@ -52,16 +52,17 @@ pub record RateDaysAmountCall (days rate amount : ℕ) (r : Result ℕ Refusal) 
 
 -- ---- what holds of them
 
--- the compensation that a product comes to
-abbrev pub cents_of : Result ℕ Refusal → Option ℕ
-cents_of (Ok p) = Some (half_up p parts_of_cent)
-cents_of (Err r) = None
+-- the compensation that a product comes to in a refund of a date
+abbrev pub cents_of : ℕ → Result ℕ Refusal → Option ℕ
+cents_of date (Ok p) = Some (rounded date p parts_of_cent)
+cents_of date (Err r) = None
 
 pub record Products : Type 0 where
   -- the second product is the interest in another order
   pub same_interest : (days rate amount : ℕ) → rate_days_amount days rate amount ≡ interest amount rate days
   -- it is given where a compensation is, and nowhere else, and rounds to it
-  pub same_cents : (days rate amount : ℕ) → cents_of (rate_days_amount_answer days rate amount) ≡ compensation_of amount rate days
+  pub same_cents :
+      (date days rate amount : ℕ) → cents_of date (rate_days_amount_answer days rate amount) ≡ compensation_of date amount rate days
   -- for one cent it is that of days and rate alone, given for the same days and rates
   pub of_one_cent : (days rate : ℕ) → rate_days_amount_answer days rate 1 ≡ rate_days_answer days rate
   -- the case of the request: 5,000 cents at 360 for 1 day

@@ -1,4 +1,4 @@
-// Signed positions, what an event of money posts to them, and compensation: document 01, "Postings", and document 02, (g).
+// Signed positions, what an event of money posts to them, and compensation: document 01, "Postings", and document 02, (b) and (g).
 // Every public function answers for any input: an error says where there is nothing to post to, and None where there is no value.
 #![tactic(auto)]
 

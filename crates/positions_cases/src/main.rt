@@ -1,5 +1,5 @@
-// Compensation and its two products for a spread of cases, postings and transfers on a table of four, the amounts of an event.
-// The figures in stdout were worked out apart from this code, those of compensation with exact fractions.
+// Compensation by the date of a refund and its two products for a spread of cases, postings and transfers on a table of four, the amounts of
+// an event. The figures in stdout were worked out apart from this code, those of compensation with exact fractions.
 #![tactic(auto)]
 
 use positions::amounts::{refunded, reversed, settlement};
@@ -9,8 +9,13 @@ use positions::{PostError, Postings};
 use refusals::Refusal;
 use std::io;
 
-// Amount, rate and days of each case: the worked cases of document 01, the limits, numbers chosen at random, exact halves.
-const CASES: [(u64, u64, u64); 60] = [
+// The dates of refunds: the last that takes a half up, the first that takes it to the even cent and the first business day of these; 0 and
+// the largest number, since no number is refused as a date.
+const DATES: [u64; 5] = [0, 20251231, 20260101, 20260102, 18446744073709551615];
+
+// Amount, rate and days of each case: the worked cases of documents 01 and 02, the limits, numbers chosen at random, exact halves above odd
+// and above even cents, small ones and the largest, and one part less and more than a half.
+const CASES: [(u64, u64, u64); 72] = [
     (5000, 360, 1),
     (5000, 360, 0),
     (5000, 360, 2),
@@ -75,6 +80,18 @@ const CASES: [(u64, u64, u64); 60] = [
     (558225, 1000, 24),
     (44000, 225, 90),
     (275000, 36, 430),
+    (5000, 360, 5),
+    (5000, 360, 7),
+    (5399999, 1, 1),
+    (5400001, 1, 1),
+    (9000000, 1, 1),
+    (8999999, 1, 1),
+    (9000001, 1, 1),
+    (5000, 90, 4),
+    (99999400000, 9999, 999),
+    (99999800000, 9999, 999),
+    (99999700000, 9999, 438),
+    (99999900000, 9999, 438),
 ];
 
 // Products of 0, each number past its limit alone, also where the product would be 0, amounts of a row on both sides of the most that
@@ -123,12 +140,20 @@ const TRANSFERS: [(u64, u64, i64); 8] = [
 // Of the posting behind the transfers.
 const LAST_POSTS: [(u64, i64); 1] = [(3, -1)];
 
-fn show_compensation(rt: &impl Print, amount: u64, rate: u64, days: u64) -> io::Result<()> {
-    print!(rt; "{amount} {rate} {days} ")?;
-    match compensation(amount, rate, days) {
-        Some(k) => println!(rt; "{k}"),
-        None => println!(rt; "outside"),
+fn show_cents(rt: &impl Print, date: u64, amount: u64, rate: u64, days: u64) -> io::Result<()> {
+    match compensation(date, amount, rate, days) {
+        Some(k) => print!(rt; " {k}"),
+        None => print!(rt; " outside"),
     }
+}
+
+// In a refund of each date.
+fn show_by_date(rt: &impl Print, amount: u64, rate: u64, days: u64) -> io::Result<()> {
+    print!(rt; "{amount} {rate} {days}")?;
+    for date in DATES {
+        show_cents(rt, date, amount, rate, days)?;
+    }
+    println!(rt; "")
 }
 
 fn show_product(rt: &impl Print, answer: Result<u64, Refusal>) -> io::Result<()> {
@@ -148,7 +173,7 @@ fn show_products(rt: &impl Print, amount: u64, rate: u64, days: u64) -> io::Resu
 
 fn show_cases(rt: &impl Print) -> io::Result<()> {
     for (amount, rate, days) in CASES {
-        show_compensation(rt, amount, rate, days)?;
+        show_by_date(rt, amount, rate, days)?;
         show_products(rt, amount, rate, days)?;
     }
     for (amount, rate, days) in LIMITS {

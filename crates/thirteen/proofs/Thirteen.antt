@@ -7,7 +7,7 @@ use Prim.Native.Nat.{ℕ}
 use lib.Dec.{T, eqb, eqb→eq}
 use mir.Facts.{and_yes}
 use Rattle.calendar.specs.Easter.{easter_of}
-use Rattle.positions.specs.Compensation.{compensation as compensationFor, interest, half_up}
+use Rattle.positions.specs.Compensation.{compensation as compensationFor, interest, half_up, rounded}
 use Rattle.tables.specs.Ledger.{Ledger}
 use Rattle.opening.specs.Opening.{fresh}
 use Rattle.model.specs.Lookups.{mandate_of, collection_of}
@@ -24,14 +24,14 @@ computed (Easter year) = said (Easter year)
 computed (KeptFor requested) = said (KeptFor requested)
 computed (Months n date) = said (Months n date)
 computed (Answer e) = answer_number (ruled_answer (ruled_run (fresh lent) events) e)
-computed (Cents amount rate days) = said (Cents amount rate days)
+computed (Cents date amount rate days) = said (Cents date amount rate days)
 
 said_computed : (q : Question) → said q ≡ computed q
 said_computed (Easter year) = refl
 said_computed (KeptFor requested) = refl
 said_computed (Months n date) = refl
 said_computed (Answer e) = ap answer_number (opened_answer lent lent_sizes events e)
-said_computed (Cents amount rate days) = refl
+said_computed (Cents date amount rate days) = refl
 
 -- ---- all rows by one test
 
@@ -42,14 +42,14 @@ abbrev agree? : List Row → Bool
 agree? [] = true
 agree? (r ∷ rs) = holds? r && agree? rs
 
-agree : (rs : List Row) → T (agree? rs) → Agree rs
+pub agree : (rs : List Row) → T (agree? rs) → Agree rs
 agree [] t = tt
 agree (r ∷ rs) t =
     let p = and_yes (holds? r) (agree? rs) t in
     (said_computed r.question ∙ eqb→eq (computed r.question) r.paper p.0, agree rs p.1)
 
 pub thirteen : Thirteen
-unfolding table ruled_run easter_of compensationFor interest half_up
+unfolding table ruled_run easter_of compensationFor interest rounded half_up
 thirteen = record {
   settled = ap (λ (l : Ledger). collection_of l 70) (opened_run lent lent_sizes events);
   presented = ap (λ (l : Ledger). mandate_of l 7) (opened_run lent lent_sizes events);

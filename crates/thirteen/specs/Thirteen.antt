@@ -1,5 +1,6 @@
 -- The table of document 01, "Dates and cents to prove": a row for each, a question beside what the paper says. Answers are those of
--- the ledger after four accepted events, which settle a collection on 20240402, its kept due. Assumes nothing.
+-- the ledger after four accepted events, which settle a collection on 20240402, its kept due; K is asked for refunds of that day and of the
+-- next, before document 02, (b), rounds otherwise. Assumes nothing.
 use Rattle.std.specs.Prelude.{◌≡◌, false, List, [], ◌∷◌, ℕ, length}
 use Rattle.calendar.specs.Easter.{easter_of}
 use Rattle.calendar.specs.Periods.{months_after}
@@ -65,7 +66,7 @@ pub data Question : Type 0 where
   KeptFor : ℕ → Question  -- the kept due of a requested date
   Months : ℕ → ℕ → Question  -- a number of them after a date
   Answer : Event → Question  -- of the ledger, to an event
-  Cents : ℕ → ℕ → ℕ → Question  -- K of an amount, a rate and days
+  Cents : ℕ → ℕ → ℕ → ℕ → Question  -- K of a refund's date, an amount, a rate and days
 
 -- of collection 70, on a date
 abbrev pub return : ℕ → Question
@@ -87,7 +88,7 @@ said (Easter year) = date_found (easter_of year)
 said (KeptFor requested) = kept_due requested
 said (Months n date) = date_found (months_after (record { 0 = n }) date)
 said (Answer e) = answer_number (answer book e)
-said (Cents amount rate days) = compensationFor amount rate days
+said (Cents date amount rate days) = compensationFor date amount rate days
 
 -- ---- the table
 
@@ -111,8 +112,8 @@ table =
     ∷ row (Months 13 20250131) 20260228
     ∷ row (collect 20270325 20270402) 0
     ∷ row (collect 20270402 20270405) 14
-    ∷ row (Cents 5000 360 1) 1
-    ∷ row (Cents 5000 360 0) 0
+    ∷ row (Cents 20240403 5000 360 1) 1
+    ∷ row (Cents 20240402 5000 360 0) 0
     ∷ []
 
 -- ---- the statement
@@ -140,8 +141,8 @@ questions =
     ∷ Months 13 20250131
     ∷ Answer (event 5 20270325 7 71 0 0 10000 20270402 1)
     ∷ Answer (event 5 20270402 7 71 0 0 10000 20270405 1)
-    ∷ Cents 5000 360 1
-    ∷ Cents 5000 360 0
+    ∷ Cents 20240403 5000 360 1
+    ∷ Cents 20240402 5000 360 0
     ∷ []
 
 pub record Thirteen : Type 0 where

@@ -47,13 +47,13 @@ abbrev pub refund_for : ℕ → Option ℕ → Option Postings
 refund_for amount (Some cents) = refunded_of amount cents
 refund_for amount None = None
 
-abbrev pub refund_after : ℕ → ℕ → Option CalendarDays → Option Postings
-refund_after amount rate (Some days) = refund_for amount (compensation_of amount rate days.0)
-refund_after amount rate None = None
+abbrev pub refund_after : ℕ → ℕ → ℕ → Option CalendarDays → Option Postings
+refund_after date amount rate (Some days) = refund_for amount (compensation_of date amount rate days.0)
+refund_after date amount rate None = None
 
 abbrev pub undone_of : Way → ℕ → ℕ → ℕ → Option Postings
 undone_of ByReturn amount settled date = reversed_of amount
-undone_of (ByRefund rate authorisation) amount settled date = refund_after amount rate (days_between settled date)
+undone_of (ByRefund rate authorisation) amount settled date = refund_after date amount rate (days_between settled date)
 undone_of ByReversal amount settled date = reversed_of amount
 
 -- ---- the verdict

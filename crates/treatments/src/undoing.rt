@@ -9,12 +9,12 @@ use positions::Postings;
 use positions::amounts::{refunded, reversed};
 use positions::compensation::compensation;
 
-// The postings of a refund, with its compensation.
+// The postings of a refund, with the compensation by the rule of its date.
 fn refund(amount: u64, rate: u64, settled: u64, date: u64) -> Option<Postings>
-    ensures { result ≡ refund_after amount rate (days_between settled date) }
+    ensures { result ≡ refund_after date amount rate (days_between settled date) }
 {
     let days = days_between(settled, date)?;
-    let cents = compensation(amount, rate, days.0)?;
+    let cents = compensation(date, amount, rate, days.0)?;
     refunded(amount, cents)
 }
 

@@ -12,7 +12,7 @@ use borrow.Author.Tests.{eqb-true, le-leb}
 use Rattle.common.proofs.Tests.{and_halves, and_true, either}
 use Rattle.calendar.specs.Gregorian.{leap, leap_day}
 use Rattle.calendar.specs.DayNumber.{days_before, year_start, day_number}
-use Rattle.positions.specs.Compensation.{compensation as compensationFor, interest, half_up}
+use Rattle.positions.specs.Compensation.{interest, half_up}
 use Rattle.digits.specs.Field.{signed_padded, signed_field, read_digits, read_number, read_field}
 use Rattle.lines.specs.Line.{read_line}
 use Rattle.tables.specs.Limits.{creditor_count, debtor_count, bank_count}
@@ -46,7 +46,7 @@ history_is = history_answers events (opened lent) ∙ ap (entries events) answer
 
 -- the journal after the example; whoever unfolds it unfolds all that its figures are computed from
 closing : Journal
-unfolding events journal_from note_kind new_noted collected_on noted_collection note_collect noted_settled note_settle note_refund paid_on compensationFor interest half_up leap leap_day days_before year_start day_number
+unfolding events journal_from note_kind new_noted collected_on noted_collection note_collect noted_settled note_settle note_refund paid_on interest half_up leap leap_day days_before year_start day_number
 closing = journal (entries events numbers)
 
 creditors : (n : ℕ) → figure_in closing 1 n ≡ cents_in positions 1 n

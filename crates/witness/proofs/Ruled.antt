@@ -1,6 +1,6 @@
 -- An opened ledger stays fit, whatever the events, so they are answered by the rules alone: no answer need test the memory.
--- To cite: `opened_answers`, `opened_run`, `opened_answer`, `history_answers`. Assumes nothing.
-use Rattle.std.proofs.Common.{Result}
+-- To cite: `opened_answers`, `opened_run`, `opened_answer`, `opened_query`, `history_answers`. Assumes nothing.
+use Rattle.std.proofs.Common.{Ok, Result}
 use mathlib.Core.Path.{◌≡◌, refl, ap, ◌∙◌}
 use mathlib.Core.Bool.{true}
 use mathlib.Core.List.{List, [], ◌∷◌}
@@ -27,7 +27,7 @@ use Rattle.model.specs.Lookups.{mandate_of, collection_of}
 use Rattle.model.specs.Deadlines.{kept_due, timely, last_day, lapse_end}
 use Rattle.model.specs.Checks.{ruled}
 use Rattle.model.specs.Effects.{changed, presented_on, new_collection, treated, effect}
-use Rattle.model.specs.Step.{answer_number, then_ruled, answer, after_answer, after, run, Entry, entry, history}
+use Rattle.model.specs.Step.{answer_number, then_ruled, answer, after_answer, after, in_query, figure_of, query, run, Entry, entry, history}
 use Rattle.model.specs.Bounds.{Safe}
 use Rattle.model.proofs.Laws.Answers.{accepted_number}
 use Rattle.model.proofs.Laws.Batch.{after_safe, run_safe, opened_safe}
@@ -97,6 +97,13 @@ module _ (t : Ledger) (z : sizes_fit t ≡ true) (es : List Event) where
   opened_answer e =
       answer_ruled (run (opened t) es) e opened_fit
       ∙ ap (λ (l : Ledger). ruled_answer l e) opened_run
+
+  -- the answer to a query
+  pub opened_query :
+      (kind number : ℕ) → in_query kind number ≡ true
+      → query (run (opened t) es) kind number ≡ Ok (figure_of (ruled_run (fresh t) es) kind number)
+  unfolding query
+  opened_query kind number q = rw (opened_fit, q) (ap (λ (l : Ledger). Ok (figure_of l kind number)) opened_run)
 
 -- ---- what the program lends has the sizes asked for
 

@@ -115,8 +115,8 @@ larger {m} {n} {p} h q =
 pub undo_posting : (way : Way) (A settled date : ℕ) → SoundWay way → A ≤ amount_limit → days_since settled date ≤ days_limit → Posting (amount_limit + compensation_limit) (undone way A settled date)
 undo_posting ByReturn A settled date s a d = larger (omega arith) (reversed_posting A)
 undo_posting (ByRefund rate authorisation) A settled date s a d =
-    let k = compensation_bound A rate (days_since settled date) a s d in
-    larger (omega arith) (refunded_posting A (compensationFor A rate (days_since settled date)))
+    let k = compensation_bound date A rate (days_since settled date) a s d in
+    larger (omega arith) (refunded_posting A (compensationFor date A rate (days_since settled date)))
 undo_posting ByReversal A settled date s a d = larger (omega arith) (reversed_posting A)
 
 -- ---- bounds

@@ -7,11 +7,14 @@ use mathlib.Core.Bool.{Bool, true, false, cond, ◌&&◌, and-false}
 use mathlib.Core.List.{List}
 use Prim.Native.Nat.{ℕ, zero, suc, ◌≤◌}
 use native.Mathlib.Omega.{arith}
-use lib.Dec.{eqb}
+use lib.Dec.{eqb, ltb}
+use Rattle.std.proofs.lemmas.Bool.{ltb-true, ltb-false}
 use lib.IntN.{pos, neg_ℤ-neg_ℤ}
 use Rattle.common.proofs.Tests.{either}
 use Rattle.calendar.specs.Target.{first_business_day}
+use Rattle.positions.specs.Compensation.{compensation as compensationFor, interest, half_up, half_even}
 use Rattle.positions.specs.Postings.{settlement}
+use Rattle.positions.proofs.Laws.Compensation.{compensation_before, compensation_from}
 use Rattle.positions.specs.declared.Postings.{Postings}
 use Rattle.events.specs.declared.Event.{Event}
 use Rattle.events.specs.Limits.{checked}
@@ -27,7 +30,7 @@ use Rattle.model.specs.declared.Action.TheVariants.{AddCreditor, AddMandate, Cha
 use Rattle.model.specs.declared.Change.TheVariants.{NewBank, NewCreditor, Cancel}
 use Rattle.model.specs.declared.Treatment.TheVariants.{Settle, Reject, Undo}
 use Rattle.model.specs.declared.Way.TheVariants.{ByReturn, ByRefund, ByReversal}
-use Rattle.model.specs.Deadlines.{date_found, kept_due}
+use Rattle.model.specs.Deadlines.{date_found, kept_due, days_since}
 use Rattle.model.specs.Effects.{closes, undone}
 use Rattle.model.specs.Lookups.{Known}
 use Rattle.model.specs.Lookups.Known.{unknown, known}
@@ -101,6 +104,16 @@ last_closes (suc (suc zero)) h = refl
 last_closes (suc (suc (suc zero))) h = refl
 last_closes (suc (suc (suc (suc n)))) h = absurd (omega arith)
 
+-- for every date the journal rounds as `compensation` does
+rule_same :
+    (date A rate days : ℕ)
+    → cond (ltb date 20260101) (half_up (interest A rate days) 3600000) (half_even (interest A rate days) 3600000)
+    ≡ compensationFor date A rate days
+rule_same date A rate days =
+    either (ltb date 20260101)
+    (λ b. rw b (sym (compensation_before date A rate days (ltb-true date 20260101 b))))
+    (λ b. rw b (sym (compensation_from date A rate days (ltb-false date 20260101 b))))
+
 module _ (j : Journal) (e : Event) where
   amended_same : (m : NotedMandate) → amended e m ≡ change_of (cond (eqb e.code 0) (NewBank e.c) (NewCreditor e.a)) m
   unfolding amended change_of
@@ -127,7 +140,7 @@ module _ (j : Journal) (e : Event) where
 
   refund_same : (k : NotedCollection) → note_refund j k (paid_on e k) ≡ with_figures j k (undone (ByRefund e.b (authorisation e.code)) k.amount k.settled e.date)
   unfolding note_refund paid_on
-  refund_same k = refl
+  refund_same k = rw (rule_same e.date k.amount e.b (days_since k.settled e.date)) refl
 
   undo_same : (f g : NotedCollection → Journal) → ((k : NotedCollection) → f k ≡ g k) → needing_settled j e f ≡ needing (j.collections e.a) j (λ k. cond (eqb k.settled 0) j (g k))
   undo_same f g h =

@@ -4,9 +4,9 @@ use mathlib.Core.Path.{◌≡◌, refl}
 use Prim.Native.Nat.{ℕ, ◌+◌, ◌*◌, ◌<◌, ◌≤◌}
 use native.Mathlib.Omega.{arith}
 use Rattle.positions.specs.Positions.{position_limit}
-use Rattle.positions.specs.Compensation.{interest, half_up, compensation, amount_limit, rate_limit, days_limit}
+use Rattle.positions.specs.Compensation.{parts_of_cent, interest, half_up, compensation, amount_limit, rate_limit, days_limit}
 use Rattle.positions.specs.Limits.{lent_rows, compensation_limit, row_move}
-use Rattle.positions.proofs.Laws.Compensation.{compensation_mono}
+use Rattle.positions.proofs.Laws.Compensation.{compensation_le, compensation_mono}
 
 -- ---- the days of a refund in time
 
@@ -18,23 +18,25 @@ refund_days = 453
 abbrev pub refund_limit : ℕ
 refund_limit = 125820749999
 
--- ---- the largest compensations
+-- ---- the largest compensations, by either rule
 
-compensation_largest : compensation amount_limit rate_limit days_limit ≡ compensation_limit
-unfolding compensation half_up interest
-compensation_largest = refl
+largest : half_up (interest amount_limit rate_limit days_limit) parts_of_cent ≡ compensation_limit
+unfolding half_up interest
+largest = refl
 
-pub compensation_bound : (a r d : ℕ) → a ≤ amount_limit → r ≤ rate_limit → d ≤ days_limit → compensation a r d ≤ compensation_limit
-compensation_bound a r d ha hr hd =
-    omega (arith, compensation_largest, compensation_mono a amount_limit r rate_limit d days_limit ha hr hd)
+pub compensation_bound :
+    (date a r d : ℕ) → a ≤ amount_limit → r ≤ rate_limit → d ≤ days_limit → compensation date a r d ≤ compensation_limit
+compensation_bound date a r d ha hr hd =
+    omega (arith, largest, compensation_le date amount_limit rate_limit days_limit, compensation_mono date a amount_limit r rate_limit d days_limit ha hr hd)
 
-refund_largest : compensation amount_limit rate_limit refund_days ≡ refund_limit
-unfolding compensation half_up interest
+refund_largest : half_up (interest amount_limit rate_limit refund_days) parts_of_cent ≡ refund_limit
+unfolding half_up interest
 refund_largest = refl
 
-pub refund_bound : (a r d : ℕ) → a ≤ amount_limit → r ≤ rate_limit → d ≤ refund_days → compensation a r d ≤ refund_limit
-refund_bound a r d ha hr hd =
-    omega (arith, refund_largest, compensation_mono a amount_limit r rate_limit d refund_days ha hr hd)
+pub refund_bound :
+    (date a r d : ℕ) → a ≤ amount_limit → r ≤ rate_limit → d ≤ refund_days → compensation date a r d ≤ refund_limit
+refund_bound date a r d ha hr hd =
+    omega (arith, refund_largest, compensation_le date amount_limit rate_limit refund_days, compensation_mono date a amount_limit r rate_limit d refund_days ha hr hd)
 
 -- ---- the rows of a ledger, one settled and undone after the other
 

@@ -13,7 +13,7 @@ use Prim.Native.Nat.{ℕ, ◌<◌}
 use native.Mathlib.Omega.{arith}
 use native.Mathlib.Nat.{mul-one}
 use Rattle.refusals.specs.declared.Refusal.{Refusal}
-use Rattle.positions.specs.Compensation.{amount_limit, rate_limit, days_limit, in_limits, parts_of_cent, interest, half_up, interest_bound, compensation, compensation_of}
+use Rattle.positions.specs.Compensation.{amount_limit, rate_limit, days_limit, in_limits, parts_of_cent, interest, rounded, interest_bound, compensation, compensation_of}
 use Rattle.positions.proofs.Laws.Compensation.{in_limits_parts, interest_fits}
 use Rattle.positions.specs.Products.{rate_days, rate_days_amount, rate_days_amount_checks, rate_days_answer, rate_days_amount_answer, RateDaysCall, RateDaysAmountCall, cents_of, Products}
 
@@ -25,8 +25,8 @@ rate_days_amount_interest days rate amount = omega arith
 
 -- ---- the compensation
 
-module _ (days rate amount : ℕ) where
-  cents_same : cents_of (rate_days_amount_answer days rate amount) ≡ compensation_of amount rate days
+module _ (date days rate amount : ℕ) where
+  cents_same : cents_of date (rate_days_amount_answer days rate amount) ≡ compensation_of date amount rate days
   unfolding rate_days_amount_answer compensation_of compensation
   cents_same = grind (arith, rate_days_amount_interest)
 
@@ -35,12 +35,12 @@ module _ (days rate amount : ℕ) where
   unfolding rate_days_amount_answer
   given_fits p c = let given = c.answer_is in grind (arith, rate_days_amount_interest, in_limits_parts, interest_fits)
 
-  pub given_cents : (p : ℕ) → RateDaysAmountCall days rate amount (Ok p) → compensation_of amount rate days ≡ Some (half_up p parts_of_cent)
-  given_cents p c = sym (ap cents_of c.answer_is ∙ cents_same)
+  pub given_cents : (p : ℕ) → RateDaysAmountCall days rate amount (Ok p) → compensation_of date amount rate days ≡ Some (rounded date p parts_of_cent)
+  given_cents p c = sym (ap (cents_of date) c.answer_is ∙ cents_same)
 
   -- there is none where the product is refused
-  pub refused_cents : (e : Refusal) → RateDaysAmountCall days rate amount (Err e) → compensation_of amount rate days ≡ None
-  refused_cents e c = sym (ap cents_of c.answer_is ∙ cents_same)
+  pub refused_cents : (e : Refusal) → RateDaysAmountCall days rate amount (Err e) → compensation_of date amount rate days ≡ None
+  refused_cents e c = sym (ap (cents_of date) c.answer_is ∙ cents_same)
 
 -- what `compensation` answers
 pub ruleset cents_laws = (given_fits, given_cents, refused_cents)

@@ -76,16 +76,16 @@ module _ {amount rate settled date : ℕ} (r : Refundable amount rate settled da
       (day_of_is date r.to)
       (day_number_mono_le settled date r.from r.to r.order)
 
-  cents_are : compensation_of amount rate (days_since settled date) ≡ Some (compensation amount rate (days_since settled date))
-  cents_are = compensation_of_is amount rate (days_since settled date) r.limits
+  cents_are : compensation_of date amount rate (days_since settled date) ≡ Some (compensation date amount rate (days_since settled date))
+  cents_are = compensation_of_is date amount rate (days_since settled date) r.limits
 
 undone_is : (way : Way) (amount settled date : ℕ) → Refundable amount (rate_of way) settled date → undone_of way amount settled date ≡ Some (undone way amount settled date)
 undone_is ByReturn amount settled date r = reversed_of_is amount r.limits.high
 undone_is (ByRefund rate authorisation) amount settled date r =
-    ap (refund_after amount rate) (days_are r)
+    ap (refund_after date amount rate) (days_are r)
     ∙ ap (refund_for amount) (cents_are r)
-    ∙ (refunded_of_is amount (compensation amount rate (days_since settled date)) r.limits.high
-    (compensation_bound amount rate (days_since settled date) r.limits.high r.limits.rated r.limits.dated))
+    ∙ (refunded_of_is amount (compensation date amount rate (days_since settled date)) r.limits.high
+    (compensation_bound date amount rate (days_since settled date) r.limits.high r.limits.rated r.limits.dated))
 undone_is ByReversal amount settled date r = reversed_of_is amount r.limits.high
 
 -- ---- an undoing in time is within its limits
@@ -114,8 +114,8 @@ undone_size :
 undone_size ByReturn amount settled date r =
     larger_sizes (omega (arith, r.limits.high)) (reversed_size amount)
 undone_size (ByRefund rate authorisation) amount settled date r =
-    let k = compensation amount rate (days_since settled date) in
-    let h = compensation_bound amount rate (days_since settled date) r.limits.high r.limits.rated r.limits.dated in
+    let k = compensation date amount rate (days_since settled date) in
+    let h = compensation_bound date amount rate (days_since settled date) r.limits.high r.limits.rated r.limits.dated in
     larger_sizes (omega (arith, h, r.limits.high)) (refunded_size amount k)
 undone_size ByReversal amount settled date r =
     larger_sizes (omega (arith, r.limits.high)) (reversed_size amount)
