@@ -35,7 +35,7 @@ fn month_length(year: i32, month: i32) -> i32 {
 }
 
 /// Years are taken to begin in March, so that a leap day ends its year.
-pub fn day_number(year: i32, month: i32, day: i32) -> Day {
+pub const fn day_number(year: i32, month: i32, day: i32) -> Day {
     let (year, month) = if month > 2 {
         (year, month - 3)
     } else {

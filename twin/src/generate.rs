@@ -4,10 +4,11 @@
 //! settles, undoings and collects around each edge of document 01's rules, and
 //! mixes in events to be refused and broken lines. The profile `days` is the
 //! same for every seed: it asks of each day in range whether it is open. The
-//! profiles `calendar` and `worst` are made in modules of their own.
+//! profiles `calendar`, `worst` and `halves` are made in modules of their own.
 
 mod books;
 mod calendar;
+mod halves;
 mod lines;
 mod lookups;
 mod random;
@@ -15,6 +16,7 @@ mod seasons;
 
 use books::{Books, Fields, Limits, State};
 use calendar::{civil, day_in_range, day_number, easter, lapse_limit, months_after, Day};
+use halves::halves;
 use lines::{break_line, write_line};
 use lookups::Lookups;
 use random::Random;
@@ -103,6 +105,7 @@ fn main() {
         "days" => write_all(days(), lines, output),
         "calendar" => write_all(Seasons::new(seed, lines), lines, output),
         "worst" => write_all(Lookups::new(seed), lines, output),
+        "halves" => write_all(halves(seed, lines).into_iter(), lines, output),
         _ => write_events(seed, lines, name, output),
     };
     if let Err(error) = written {
@@ -143,7 +146,8 @@ fn write_events(seed: u64, lines: usize, name: &str, output: impl Write) -> io::
 }
 
 fn usage() -> ! {
-    eprintln!("usage: generate SEED LINES mixed|accepted|refused|broken|edges|calendar|worst|days");
+    eprintln!("usage: generate SEED LINES PROFILE");
+    eprintln!("profiles: mixed accepted refused broken edges calendar worst halves days");
     exit(2)
 }
 

@@ -1,6 +1,7 @@
-//! The text line, the events and their rules, from document 01.
+//! The text line, the events and their rules, from document 01 and request (b)
+//! of document 02.
 
-use crate::calendar::{day_in_range, lapse_limit, Calendar, Day};
+use crate::calendar::{day_in_range, day_number, lapse_limit, Calendar, Day};
 use crate::rows::Table;
 use std::io::{self, BufRead, ErrorKind, Write};
 
@@ -10,6 +11,12 @@ const BANKS: i64 = 64;
 const LARGEST_NUMBER: i64 = 999_999_999;
 const LARGEST_AMOUNT: i64 = 99_999_999_999;
 const LARGEST_RATE: i64 = 9_999;
+
+/// A cent in amount times rate times days: 360 days, 10,000 parts of the rate.
+const CENT: i64 = 3_600_000;
+const HALF_CENT: i64 = CENT / 2;
+/// In refunds of this day or later an exact half cent goes to the even cent.
+const HALVES_TO_EVEN_FROM: Day = day_number(2026, 1, 1);
 
 const MOST_LINES: u32 = 999_999;
 const COLUMNS: usize = 74;
@@ -492,7 +499,7 @@ impl Ledger {
         collection.state = State::Undone;
         let amount = collection.amount;
         let compensation = match undoing {
-            Undoing::Refund { rate, .. } => compensation(amount, rate, day - settled),
+            Undoing::Refund { rate, .. } => compensation(amount, rate, settled, day),
             Undoing::Return | Undoing::Reversal => 0,
         };
         self.debtors[collection.debtor] += amount;
@@ -540,10 +547,31 @@ fn last_day(calendar: &Calendar, settled: Day, undoing: Undoing) -> Day {
     }
 }
 
-/// Amount times rate times days over 3,600,000, a half cent going up. The
-/// longest time, 13 months and some weeks, keeps the product below 10^18.
-pub fn compensation(amount: i64, rate: i64, days: i32) -> i64 {
-    (amount * rate * i64::from(days) + 1_800_000) / 3_600_000
+/// Amount times rate times the days from the settled day to the refund, in cents
+/// by the rule of the refund's date. The longest time, 13 months and some weeks,
+/// keeps the product below 10^18.
+pub fn compensation(amount: i64, rate: i64, settled: Day, refunded: Day) -> i64 {
+    let product = amount * rate * i64::from(refunded - settled);
+    if refunded < HALVES_TO_EVEN_FROM {
+        half_up(product)
+    } else {
+        half_to_even(product)
+    }
+}
+
+/// The nearest cent, the upper one at an exact half.
+fn half_up(product: i64) -> i64 {
+    (product + HALF_CENT) / CENT
+}
+
+/// The nearest cent, the even one at an exact half.
+fn half_to_even(product: i64) -> i64 {
+    let upper = half_up(product);
+    if product % CENT == HALF_CENT && upper % 2 == 1 {
+        upper - 1
+    } else {
+        upper
+    }
 }
 
 // ---- A text of lines ----

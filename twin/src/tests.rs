@@ -28,16 +28,24 @@ fn output(input: &[u8]) -> String {
     String::from_utf8(output).unwrap()
 }
 
-/// The answers to events written as their nine numbers.
+/// The line of an event written as its nine numbers.
+fn line(event: &[i64; 9]) -> String {
+    let [kind, date, mandate, a, b, c, amount, second, code] = *event;
+    format!("{kind:2}{date:9}{mandate:10}{a:10}{b:10}{c:10}{amount:12}{second:9}{code:2}")
+}
+
 fn answers(events: &[[i64; 9]]) -> Vec<u8> {
     let mut ledger = Ledger::new(MANDATE_ROWS, COLLECTION_ROWS);
-    let answer = |event: &[i64; 9]| {
-        let [kind, date, mandate, a, b, c, amount, second, code] = *event;
-        let line =
-            format!("{kind:2}{date:9}{mandate:10}{a:10}{b:10}{c:10}{amount:12}{second:9}{code:2}");
+    let answer = |event| {
+        let line = line(event);
         ledger.take_line(line.as_bytes()).err().unwrap_or(0)
     };
     events.iter().map(answer).collect()
+}
+
+/// Compensation in a refund of the date, so many days after the settled day.
+fn cents(date: i64, amount: i64, rate: i64, days: Day) -> i64 {
+    compensation(amount, rate, day(date) - days, day(date))
 }
 
 /// A collection settled on 20240402, then the given undoing.
@@ -81,8 +89,8 @@ fn thirteen_dates_and_cents() {
     assert_eq!(months_after(day(20250131), 13), day(20260228));
     assert_eq!(collect_after_20240402(20270402), 0);
     assert_eq!(collect_after_20240402(20270405), 14);
-    assert_eq!(compensation(5000, 360, 1), 1);
-    assert_eq!(compensation(5000, 360, 0), 0);
+    assert_eq!(cents(20240403, 5000, 360, 1), 1);
+    assert_eq!(cents(20240402, 5000, 360, 0), 0);
 }
 
 #[test]
@@ -163,9 +171,72 @@ fn month_ends() {
     assert!(day_in_range(21000229).is_none());
 }
 
+/// 0.5, 1.5, 2.5 and 3.5 cents.
 #[test]
-fn half_a_cent_goes_up() {
-    assert_eq!(compensation(4999, 360, 1), 0);
-    assert_eq!(compensation(5000, 360, 3), 2);
-    assert_eq!(compensation(99_999_999_999, 9_999, 438), 121_654_499_999);
+fn half_a_cent_goes_up_before_2026() {
+    for date in [20240403, 20251230, 20251231] {
+        let halves = [1, 3, 5, 7].map(|days| cents(date, 5000, 360, days));
+        assert_eq!(halves, [1, 2, 3, 4], "{date}");
+    }
+}
+
+#[test]
+fn half_a_cent_goes_to_the_even_one_from_2026() {
+    for date in [20260101, 20260102, 20270104] {
+        let halves = [1, 3, 5, 7].map(|days| cents(date, 5000, 360, days));
+        assert_eq!(halves, [0, 2, 2, 4], "{date}");
+    }
+}
+
+#[test]
+fn next_to_half_a_cent() {
+    for date in [20251231, 20260101, 20260102] {
+        let whole_below = [4999, 14_999, 24_999].map(|amount| cents(date, amount, 360, 1));
+        assert_eq!(whole_below, [0, 1, 2], "{date}");
+        let whole_above = [5001, 15_001, 25_001].map(|amount| cents(date, amount, 360, 1));
+        assert_eq!(whole_above, [1, 2, 3], "{date}");
+        // One part of a cent below and above.
+        let below = [1_799_999, 5_399_999, 8_999_999].map(|amount| cents(date, amount, 1, 1));
+        assert_eq!(below, [0, 1, 2], "{date}");
+        let above = [1_800_001, 5_400_001, 9_000_001].map(|amount| cents(date, amount, 1, 1));
+        assert_eq!(above, [1, 2, 3], "{date}");
+    }
+}
+
+#[test]
+fn largest_compensation() {
+    for date in [20251231, 20260102] {
+        assert_eq!(cents(date, 99_999_999_999, 9_999, 438), 121_654_499_999);
+        assert_eq!(cents(date, 99_999_900_411, 9_999, 438), 121_654_378_845);
+        assert_eq!(cents(date, 99_999_899_589, 9_999, 438), 121_654_377_846);
+    }
+    // Halves above the odd and the even whole cent.
+    assert_eq!(cents(20251231, 99_999_900_000, 9_999, 438), 121_654_378_346);
+    assert_eq!(cents(20251231, 99_999_700_000, 9_999, 438), 121_654_135_037);
+    assert_eq!(cents(20260102, 99_999_900_000, 9_999, 438), 121_654_378_346);
+    assert_eq!(cents(20260102, 99_999_700_000, 9_999, 438), 121_654_135_036);
+}
+
+/// Two collections settled on one day of 2025 come to half a cent each.
+#[test]
+fn each_refund_by_its_own_date() {
+    let events = [
+        [1, 20251215, 0, 1, 1, 0, 0, 0, 0],
+        [2, 20251215, 7, 1, 5, 2, 0, 20251215, 0],
+        [5, 20251215, 7, 70, 0, 0, 5000, 20251229, 0],
+        [5, 20251215, 7, 71, 0, 0, 5000, 20251229, 1],
+        [6, 20251229, 0, 70, 0, 0, 0, 0, 0],
+        [6, 20251229, 0, 71, 0, 0, 0, 0, 0],
+        [9, 20251230, 0, 70, 360, 0, 0, 0, 0],
+        [9, 20260101, 0, 71, 120, 0, 0, 0, 0],
+        [9, 20260102, 0, 71, 90, 0, 0, 0, 0],
+    ];
+    assert_eq!(answers(&events), [0, 0, 0, 0, 0, 0, 0, 7, 0]);
+    let text: String = events.iter().map(|event| line(event) + "\n").collect();
+    let positions = " 1     1                -1
+ 3     1                -1
+ 3     2                 1
+ 4     0                 1
+";
+    assert!(output(text.as_bytes()).ends_with(positions));
 }
