@@ -19,7 +19,6 @@ use Rattle.tables.specs.declared.Standing.TheVariants.{Live}
 use Rattle.model.specs.declared.Treatment.{Treatment}
 use Rattle.model.specs.declared.Action.TheVariants.{Treat}
 use Rattle.model.specs.declared.Authorisation.{Authorisation}
-use Rattle.model.specs.declared.Authorisation.TheVariants.{Authorised}
 use Rattle.model.specs.declared.Way.TheVariants.{ByRefund}
 use Rattle.model.specs.Deadlines.{kept_due, timely, days_since}
 use Rattle.model.specs.Lookups.{mandate_of, collection_of}
@@ -181,9 +180,6 @@ pub record RefundsDated : Type 0 where
       → 20260101 ≤ date
       → undone (ByRefund rate code) amount settled date
       ≡ refunded amount (half_even (amount * rate * days_since settled date) 3600000)
-  -- 5,000 cents settled on 20251229: 1 day at 360 and 4 days at 90 come to half a cent each
-  pub one_day : undone (ByRefund 360 Authorised) 5000 20251229 20251230 ≡ refunded 5000 1
-  pub four_days : undone (ByRefund 90 Authorised) 5000 20251229 20260102 ≡ refunded 5000 0
 
 -- ---- what a collection is treated by
 

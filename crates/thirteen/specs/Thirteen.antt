@@ -1,6 +1,6 @@
 -- The table of document 01, "Dates and cents to prove": a row for each, a question beside what the paper says. Answers are those of
 -- the ledger after four accepted events, which settle a collection on 20240402, its kept due; K is asked for refunds of that day and of the
--- next, before document 02, (b), rounds otherwise. Assumes nothing.
+-- next, which take a half cent up. Assumes nothing.
 use Rattle.std.specs.Prelude.{◌≡◌, false, List, [], ◌∷◌, ℕ, length}
 use Rattle.calendar.specs.Easter.{easter_of}
 use Rattle.calendar.specs.Periods.{months_after}

@@ -2,13 +2,13 @@
 -- (`closes`, `undone`, `kept_due`); an event within its limits is noted as its action asks, `note_action`. `treats` counts actions as the
 -- promises count events by their kinds, `counted_action`. The invariant keeps these and cites both laws once. Assumes nothing.
 use Rattle.std.proofs.Common.{None, Ok, Option, Some, ℕ}
+use Rattle.std.proofs.lemmas.Bool.{ltb-true, ltb-false}
 use mathlib.Core.Path.{◌≡◌, refl, sym, ap, ◌∙◌}
 use mathlib.Core.Bool.{Bool, true, false, cond, ◌&&◌, and-false}
 use mathlib.Core.List.{List}
 use Prim.Native.Nat.{ℕ, zero, suc, ◌≤◌}
 use native.Mathlib.Omega.{arith}
 use lib.Dec.{eqb, ltb}
-use Rattle.std.proofs.lemmas.Bool.{ltb-true, ltb-false}
 use lib.IntN.{pos, neg_ℤ-neg_ℤ}
 use Rattle.common.proofs.Tests.{either}
 use Rattle.calendar.specs.Target.{first_business_day}

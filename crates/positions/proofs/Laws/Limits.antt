@@ -1,6 +1,5 @@
 -- Laws of specs/Limits: no rows, amounts and days carry a position past the limit.
 -- To cite: `compensation_bound`, `moves_within_limit`, `compensations_within_limit`. Assumes nothing.
-use mathlib.Core.Path.{◌≡◌, refl}
 use Prim.Native.Nat.{ℕ, ◌+◌, ◌*◌, ◌<◌, ◌≤◌}
 use native.Mathlib.Omega.{arith}
 use Rattle.positions.specs.Positions.{position_limit}
@@ -20,23 +19,22 @@ refund_limit = 125820749999
 
 -- ---- the largest compensations, by either rule
 
-largest : half_up (interest amount_limit rate_limit days_limit) parts_of_cent ≡ compensation_limit
-unfolding half_up interest
-largest = refl
+-- within some days, that of the largest amount and rate with a half going up
+largest_within :
+    (date a r d most : ℕ) → a ≤ amount_limit → r ≤ rate_limit → d ≤ most
+    → compensation date a r d ≤ half_up (interest amount_limit rate_limit most) parts_of_cent
+largest_within date a r d most ha hr hd =
+    omega (arith, compensation_le date amount_limit rate_limit most, compensation_mono date a amount_limit r rate_limit d most ha hr hd)
 
 pub compensation_bound :
     (date a r d : ℕ) → a ≤ amount_limit → r ≤ rate_limit → d ≤ days_limit → compensation date a r d ≤ compensation_limit
-compensation_bound date a r d ha hr hd =
-    omega (arith, largest, compensation_le date amount_limit rate_limit days_limit, compensation_mono date a amount_limit r rate_limit d days_limit ha hr hd)
-
-refund_largest : half_up (interest amount_limit rate_limit refund_days) parts_of_cent ≡ refund_limit
 unfolding half_up interest
-refund_largest = refl
+compensation_bound date a r d = largest_within date a r d days_limit
 
 pub refund_bound :
     (date a r d : ℕ) → a ≤ amount_limit → r ≤ rate_limit → d ≤ refund_days → compensation date a r d ≤ refund_limit
-refund_bound date a r d ha hr hd =
-    omega (arith, refund_largest, compensation_le date amount_limit rate_limit refund_days, compensation_mono date a amount_limit r rate_limit d refund_days ha hr hd)
+unfolding half_up interest
+refund_bound date a r d = largest_within date a r d refund_days
 
 -- ---- the rows of a ledger, one settled and undone after the other
 

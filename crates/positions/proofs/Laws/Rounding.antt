@@ -81,35 +81,29 @@ module _ (n d : ℕ) (h : 0 < d) where
   rest_small : n % d < d
   rest_small = mod-lt n {m = d} h
 
-  -- the quotient or the number after it
   module _ (k : ℕ) (near : Near n d k) where
+    -- where n lies above the half way between c - 1 and c, k is at least c
+    at_least : (c : ℕ) → 2 * (c * d) < 2 * n + d → c ≤ k
+    at_least c f =
+        ⊎_elim (λ (l : k < c). absurd (omega (arith, ints, near, f, mul-le-mul_right d l))) (λ (l : c ≤ k). l) (cases_lt k c)
+
+    -- where n lies below the half way between c and c + 1, k is at most c
+    at_most : (c : ℕ) → 2 * n < 2 * (c * d) + d → k ≤ c
+    at_most c f =
+        ⊎_elim (λ (l : c < k). absurd (omega (arith, ints, near, f, mul-le-mul_right d l))) (λ (l : k ≤ c). l) (cases_lt c k)
+
+    -- so it is the quotient or the number after it
     near_from : n / d ≤ k
-    near_from =
-        ⊎_elim
-        (λ (l : k < n / d). absurd (omega (arith, ints, near, quotient_rest, mul-le-mul_right d l)))
-        (λ (l : n / d ≤ k). l)
-        (cases_lt k (n / d))
+    near_from = at_least (n / d) (omega (arith, quotient_rest))
 
     near_to : k ≤ n / d + 1
-    near_to =
-        ⊎_elim
-        (λ (l : n / d + 1 < k). absurd (omega (arith, ints, near, quotient_rest, rest_small, mul-le-mul_right d l)))
-        (λ (l : k ≤ n / d + 1). l)
-        (cases_lt (n / d + 1) k)
+    near_to = at_most (n / d + 1) (omega (arith, quotient_rest, rest_small))
 
     near_below : 2 * (n % d) < d → k ≡ n / d
-    near_below l =
-        ⊎_elim
-        (λ (m : n / d < k). absurd (omega (arith, ints, near, quotient_rest, mul-le-mul_right d m)))
-        (λ (m : k ≤ n / d). omega (arith, near_from))
-        (cases_lt (n / d) k)
+    near_below l = omega (arith, near_from, at_most (n / d) (omega (arith, quotient_rest)))
 
     near_above : d < 2 * (n % d) → k ≡ n / d + 1
-    near_above l =
-        ⊎_elim
-        (λ (m : k < n / d + 1). absurd (omega (arith, ints, near, quotient_rest, mul-le-mul_right d m)))
-        (λ (m : n / d + 1 ≤ k). omega (arith, near_to))
-        (cases_lt k (n / d + 1))
+    near_above l = omega (arith, near_to, at_least (n / d + 1) (omega (arith, quotient_rest)))
 
   -- a half lies where the remainder is half of d
   between_half : 2 * (n % d) ≡ d → HalfWay n d (n / d)
@@ -154,25 +148,24 @@ module _ (n d : ℕ) (h : 0 < d) where
 
   -- ---- where both part
 
+  up_near : Near n d (half_up n d)
+  up_near = half_up_near n d h
+
   up_at_half : 2 * (n % d) ≡ d → half_up n d ≡ n / d + 1
   up_at_half e = half_up_half n d h (n / d) (between_half e)
 
   even_le : half_even n d ≤ half_up n d
   even_le =
       by_rest
-      (λ l. omega (arith, even_below n d l, near_below (half_up n d) (half_up_near n d h) l))
-      (λ e. omega (arith, even_between n d e, up_at_half e, even_of_to (n / d)))
-      (λ l. omega (arith, even_above n d l, near_above (half_up n d) (half_up_near n d h) l))
+      (λ l. omega (arith, near_below (half_even n d) even_near l, near_below (half_up n d) up_near l))
+      (λ e. omega (arith, near_to (half_even n d) even_near, up_at_half e))
+      (λ l. omega (arith, near_above (half_even n d) even_near l, near_above (half_up n d) up_near l))
 
   up_le : half_up n d ≤ half_even n d + 1
-  up_le =
-      by_rest
-      (λ l. omega (arith, even_below n d l, near_below (half_up n d) (half_up_near n d h) l))
-      (λ e. omega (arith, even_between n d e, up_at_half e, even_of_from (n / d)))
-      (λ l. omega (arith, even_above n d l, near_above (half_up n d) (half_up_near n d h) l))
+  up_le = omega (arith, near_to (half_up n d) up_near, near_from (half_even n d) even_near)
 
   same : ((q : ℕ) → HalfWay n d q → ⊥) → half_even n d ≡ half_up n d
-  same none = even_only (half_up n d) (half_up_near n d h) (λ q e. absurd (none q e))
+  same none = even_only (half_up n d) up_near (λ q e. absurd (none q e))
 
   above_odd : (q : ℕ) → q % 2 ≡ 1 → HalfWay n d q → half_even n d ≡ half_up n d
   above_odd q o e = omega (arith, half_up_half n d h q e, even_half q e, even_le, up_le)
@@ -182,7 +175,7 @@ module _ (n d : ℕ) (h : 0 < d) where
 
   pub rounding : Rounding n d
   rounding = record {
-    up_near = half_up_near n d h;
+    up_near = up_near;
     up_half = half_up_half n d h;
     even_near = even_near;
     even_half = even_half;
