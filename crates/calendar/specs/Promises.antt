@@ -1,12 +1,13 @@
 -- What is promised of the calendar. Each promise is one type here; proofs/Laws/Promises has a proof of it.
 -- Who believes the leap rule, the tests of a date (specs/Gregorian), the eight tests of a closed day and the one known weekday
 -- (specs/Target) need not look into the arithmetic of specs/DayNumber, nor into any search.
-use Rattle.std.specs.Prelude.{◌≡◌, true, cond, ℕ, zero, suc, ◌+◌, ◌*◌, ◌≤◌, ◌<◌, Some}
+use Rattle.std.specs.Prelude.{◌≡◌, true, cond, ℕ, zero, suc, ◌+◌, ◌*◌, ◌≤◌, ◌<◌, eqb, Some}
 use Rattle.calendar.specs.Gregorian.{is_date, in_range, first_year, last_year}
 use Rattle.calendar.specs.DayNumber.{calendar_days, day_number, date_at}
 use Rattle.calendar.specs.Easter.{easter_sunday}
-use Rattle.calendar.specs.Target.{weekday, business_day, is_open, First, first_open, open_after, Last, last_open_before, first_business_day}
-use Rattle.calendar.specs.Periods.{period_end}
+use Rattle.calendar.specs.Target.{weekday, business_day, is_open, First, first_open, open_after, Last, last_open_before, first_business_day, kept}
+use Rattle.calendar.specs.Periods.{days_after, period_end}
+use Rattle.calendar.specs.declared.Kept.{Kept}
 use Rattle.calendar.specs.declared.Period.{Period}
 
 -- ---- dates and day numbers are two names of the same days, in the same order
@@ -83,3 +84,25 @@ pub record EndsAfter (p : Period) (x : ℕ) : Type 0 where
 
 abbrev pub PeriodsEnd : Type 0
 PeriodsEnd = (p : Period) (x : ℕ) → in_range x ≡ true → 31 * p.months.0 + p.days.0 + 5 * p.business.0 ≤ 3652 → EndsAfter p x
+
+-- ---- how far a due date slides (document 02, (e)): from the rule of the Easter table, `EasterSundays`, and the other closed days
+
+abbrev pub slide_limit : ℕ
+slide_limit = 4
+
+pub record Slides (x : ℕ) : Type 0 where
+  pub answer : Kept
+  pub is : kept x ≡ Some answer
+  pub first : first_business_day x ≡ Some answer.date
+  -- that lies so many calendar days after x
+  pub counted : days_after answer.slid x ≡ Some answer.date
+  pub limit : answer.slid.0 ≤ slide_limit
+  -- none exactly from a business day
+  pub none : eqb answer.slid.0 0 ≡ business_day x
+
+pub record SlideLimit : Type 0 where
+  -- for every date of the calendar, 20000101 to 21991231
+  pub every_date : (x : ℕ) → is_date x ≡ true → Slides x
+  -- the limit is reached in two ways: from Good Friday past Easter Monday, and from 25 December where that is a Thursday
+  pub at_easter : kept 20240329 ≡ Some (record { date = 20240402; slid = record { 0 = slide_limit } })
+  pub at_christmas : kept 20251225 ≡ Some (record { date = 20251229; slid = record { 0 = slide_limit } })

@@ -1,11 +1,13 @@
 -- Business days. Document 01, "Calendar": all but the weekend and the six TARGET closing days.
 -- Days go by their number here; a date stands for its day.
 -- Assumes nothing.
-use Rattle.std.specs.Prelude.{◌≡◌, Bool, true, false, cond, not, ◌&&◌, [], ◌∷◌, ℕ, zero, suc, ◌+◌, ◌%◌, ◌≤◌, ◌<◌, ltb, eqb, Option, Some, None}
+use Rattle.std.specs.Prelude.{◌≡◌, Bool, true, false, cond, not, ◌&&◌, [], ◌∷◌, ℕ, zero, suc, ◌+◌, ◌-◌, ◌%◌, ◌≤◌, ◌<◌, ltb, eqb, Option, Some, None}
 use Rattle.common.specs.Tests.{any_of}
 use Rattle.calendar.specs.Gregorian.{year, month_day, is_date}
 use Rattle.calendar.specs.DayNumber.{calendar_days, day_number, date_at, date_of}
 use Rattle.calendar.specs.Easter.{easter_sunday}
+use Rattle.calendar.specs.declared.CalendarDays.{CalendarDays}
+use Rattle.calendar.specs.declared.Kept.{Kept}
 
 -- ---- business days
 
@@ -80,6 +82,18 @@ answer_date None = None
 -- "Kept due is the first business day on or after the requested date"
 unfoldable pub first_business_day : ℕ → Option ℕ
 first_business_day x = cond (is_date x) (date_of (first_open (day_number x))) None
+
+-- the calendar days from the date x on to a later one, or to x itself
+abbrev pub days_to : ℕ → ℕ → CalendarDays
+days_to x date = record { 0 = day_number date - day_number x }
+
+-- "The kept due date is now given together with the number of calendar days from the requested one" (document 02, (e))
+abbrev pub with_days : ℕ → Option ℕ → Option Kept
+with_days x (Some date) = Some (record { date = date; slid = days_to x date })
+with_days x None = None
+
+unfoldable pub kept : ℕ → Option Kept
+kept x = with_days x (first_business_day x)
 
 unfoldable pub last_business_day_before : ℕ → Option ℕ
 last_business_day_before x = cond (is_date x) (answer_date (last_open_before (day_number x))) None

@@ -17,6 +17,13 @@ pub struct CalendarDays(pub u64);
 #[derive(Clone, Copy, Debug, PartialEq, Eq)]
 pub struct BusinessDays(pub u64);
 
+// The date to which a due date is kept, and the calendar days from the requested one to it.
+#[derive(Clone, Copy, Debug, PartialEq, Eq)]
+pub struct Kept {
+    pub date: u64,
+    pub slid: CalendarDays,
+}
+
 // A count of months.
 #[derive(Clone, Copy, Debug, PartialEq, Eq)]
 pub struct Months(pub u64);

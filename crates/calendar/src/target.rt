@@ -1,11 +1,12 @@
 // Business days: specs/Target.
 ghost use Rattle.std.specs.Prelude.{◌≡◌};
 ghost use Rattle.calendar.specs.DayNumber.{in_calendar};
-ghost use Rattle.calendar.specs.Target.{business_day, is_open, first_open, last_open_before, answer_date, first_business_day, last_business_day_before};
+ghost use Rattle.calendar.specs.Target.{business_day, is_open, first_open, last_open_before, answer_date, kept, last_business_day_before};
 
 use crate::easter::easter_place;
 use crate::gregorian;
 use crate::gregorian::Day;
+use crate::{CalendarDays, Kept};
 
 // Whether a day is a business day. The table of Easter is read only for a day from two before 22 March to the one after 25 April.
 #[tactic(auto, using(crate::proofs::Laws::Rules::of_is_open_day))]
@@ -78,12 +79,17 @@ pub fn date_of_day(d: Option<u64>) -> Option<u64>
     d.and_then(gregorian::date_of)
 }
 
-// The first business day on or after a date.
-#[tactic(auto, using(crate::proofs::Laws::Rules::of_first_business_day))]
-pub fn first_business_day(x: u64) -> Option<u64>
-    ensures { result ≡ first_business_day x }
+// The first business day on or after a date, with the calendar days to it.
+#[tactic(auto, using(crate::proofs::Laws::Rules::of_kept))]
+pub fn kept(x: u64) -> Option<Kept>
+    ensures { result ≡ kept x }
 {
-    Some(first_open_day(Day::of(x)?).date())
+    let day = Day::of(x)?;
+    let found = first_open_day(day);
+    Some(Kept {
+        date: found.date(),
+        slid: CalendarDays(found.number() - day.number()),
+    })
 }
 
 // The last business day before a date.

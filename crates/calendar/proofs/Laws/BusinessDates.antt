@@ -1,20 +1,23 @@
 -- Laws of specs/Target for dates: what the answers are.
 -- To cite: `first_business_day_is`, the laws named kept_date_F (the date to which a due date is kept), `kept_in_range` (it is in the range),
--- `business_day_before`. Assumes nothing.
+-- `kept_is` and the laws named slide_F (the days to it), `business_day_before`. Assumes nothing.
 use Rattle.std.proofs.Common.{None, Some}
 use mathlib.Core.Path.{◌≡◌, refl, sym, ap, ◌∙◌}
-use mathlib.Core.Bool.{true, false}
-use Prim.Native.Nat.{ℕ, ◌+◌, ◌≤◌, ◌<◌}
+use mathlib.Core.Bool.{Bool, true, false}
+use Prim.Native.Nat.{ℕ, ◌+◌, ◌-◌, ◌≤◌, ◌<◌}
 use native.Mathlib.Omega.{arith}
+use lib.Dec.{eqb}
+use borrow.Author.Tests.{ne_eqb}
 use Rattle.calendar.specs.Gregorian.{leap, leap_day, month_length, is_date, in_range, last_date}
 use Rattle.calendar.specs.DayNumber.{calendar_days, days_before, year_start, day_number, day_of, date_at, date_of}
 use Rattle.calendar.specs.Easter.{computus, easter_sunday}
-use Rattle.calendar.specs.Target.{closed_by, closed, business_day, is_open, first_open, last_open_before, answer_date, first_business_day, last_business_day_before}
+use Rattle.calendar.specs.Target.{closed_by, closed, business_day, is_open, first_open, last_open_before, answer_date, first_business_day, kept, last_business_day_before}
+use Rattle.calendar.specs.Periods.{days_after}
 use Rattle.calendar.proofs.Laws.Gregorian.{range_facts, in_range_lem}
 use Rattle.calendar.proofs.Laws.DayNumber.{day_number_lt, date_at_date, day_number_date_at, day_number_mono, day_number_mono_le, day_number_reflects, day_number_reflects_le}
-use Rattle.calendar.proofs.Laws.Answers.{day_of_day_lem, day_of_none, date_of_is}
+use Rattle.calendar.proofs.Laws.Answers.{day_of_day_lem, day_of_none, date_of_is, date_of_date}
 use Rattle.calendar.proofs.Laws.Target.{open_date, open_at}
-use Rattle.calendar.proofs.Laws.BusinessDays.{first_open_first, first_open_lt, last_open_exists}
+use Rattle.calendar.proofs.Laws.BusinessDays.{first_open_first, first_open_lt, first_open_near, first_open_open, last_open_exists}
 
 -- ---- first_business_day
 
@@ -84,6 +87,56 @@ kept_in_range x r =
       from = omega (arith, f.from, kept_date_from x d);
       to = kept_date_first x d last_date last_date_business last_date_date f.to;
     })
+
+-- ---- kept
+
+-- by the answer for the date's day
+pub kept_day : (x n date : ℕ) → day_of x ≡ Some n → Some date ≡ date_of (first_open n) → kept x ≡ Some (record { date = date; slid = record { 0 = first_open n - n } })
+unfolding kept
+kept_day x n date e f =
+    let p = day_of_day_lem x n e in
+    let q = date_of_date (first_open n) date (sym f) in
+    let m : day_number date ≡ first_open n = ap day_number q.1 ∙ day_number_date_at _ q.0 in
+    rw (first_business_day_day x n e ∙ sym f, m, p.1)
+
+pub kept_none : (x : ℕ) → day_of x ≡ None → kept x ≡ None
+unfolding kept
+kept_none x e = rw (first_business_day_none x e)
+
+-- the days that a due date slides
+pub slide : ℕ → ℕ
+slide x = first_open (day_number x) - day_number x
+
+module _ (x : ℕ) (h : is_date x ≡ true) where
+  pub kept_is : kept x ≡ Some (record { date = kept_date x; slid = record { 0 = slide x } })
+  unfolding kept slide
+  kept_is = rw (first_business_day_is x h, kept_date_number x h)
+
+  -- so many days after the date lies the one to which it is kept
+  pub slide_counted : days_after (record { 0 = slide x }) x ≡ Some (kept_date x)
+  unfolding days_after slide kept_date
+  slide_counted =
+      let n = day_number_lt x h in
+      let e : day_number x + (first_open (day_number x) - day_number x) ≡ first_open (day_number x) = omega (arith, (first_open_first _ n).from) in
+      rw (h, e) (date_of_is _ (first_open_lt _ n))
+
+  pub slide_near : slide x ≤ 4
+  unfolding slide
+  slide_near = omega (arith, first_open_near _ (day_number_lt x h))
+
+  slide_open : (b : Bool) → is_open (day_number x) ≡ b → eqb (slide x) 0 ≡ b
+  unfolding slide
+  slide_open true o =
+      let e : first_open (day_number x) - day_number x ≡ 0 = omega (arith, first_open_open _ o) in
+      rw e
+  slide_open false o =
+      let f = first_open_first _ (day_number_lt x h) in
+      let p : ¬ (first_open (day_number x) ≡ day_number x) = λ e. let t = ap is_open e ∙ o in cc in
+      ne_eqb (first_open (day_number x) - day_number x) 0 (λ e. p (omega (arith, e, f.from)))
+
+  -- none exactly on a business day
+  pub slide_none : eqb (slide x) 0 ≡ business_day x
+  slide_none = slide_open (business_day x) (open_date x h)
 
 -- ---- last_business_day_before
 

@@ -1,17 +1,19 @@
 -- The promises of specs/Promises, proved. Assumes nothing.
-use mathlib.Core.Path.{◌≡◌, ap}
-use mathlib.Core.Bool.{false}
+use mathlib.Core.Path.{◌≡◌, refl, ap}
+use mathlib.Core.Bool.{true, false}
 use Prim.Native.Nat.{ℕ, zero, suc, ◌+◌, ◌-◌, ◌<◌}
 use native.Mathlib.Numerals.{add-one}
 use native.Mathlib.Omega.{arith}
-use Rattle.calendar.specs.DayNumber.{calendar_days}
-use Rattle.calendar.specs.Target.{is_open, First, open_after}
-use Rattle.calendar.specs.Promises.{Conversions, EasterSundays, FirstBusinessDay, business_days_in, NthBusinessDay, LastBusinessDay, KeptDue, PeriodsEnd}
+use Rattle.calendar.specs.Gregorian.{leap, leap_day, month_length, is_date}
+use Rattle.calendar.specs.DayNumber.{calendar_days, days_before, year_start, day_number, year_at, month_at, date_in, date_at, date_of}
+use Rattle.calendar.specs.Easter.{computus, easter_sunday}
+use Rattle.calendar.specs.Target.{closed_by, closed, business_day, is_open, First, seek, first_open, open_after, first_business_day, kept}
+use Rattle.calendar.specs.Promises.{Conversions, EasterSundays, FirstBusinessDay, business_days_in, NthBusinessDay, LastBusinessDay, KeptDue, PeriodsEnd, Slides, SlideLimit}
 use Rattle.calendar.proofs.Laws.Gregorian.{range_facts}
 use Rattle.calendar.proofs.Laws.DayNumber.{day_number_lt, date_at_date, date_at_day_number, day_number_date_at, day_number_mono, date_at_mono}
 use Rattle.calendar.proofs.Laws.Easter.{easter_facts}
 use Rattle.calendar.proofs.Laws.BusinessDays.{first_open_first, first_open_near, open_after_zero, open_after_from, open_after_first, last_open_exists}
-use Rattle.calendar.proofs.Laws.BusinessDates.{kept_date, first_business_day_is, kept_date_business, kept_date_from, kept_in_range}
+use Rattle.calendar.proofs.Laws.BusinessDates.{kept_date, first_business_day_is, kept_date_business, kept_date_from, kept_in_range, slide, kept_is, slide_counted, slide_near, slide_none}
 use Rattle.calendar.proofs.Laws.PeriodEnds.{longest, range_period_end}
 
 pub conversions : Conversions
@@ -109,3 +111,20 @@ unfolding longest
 periods_end p x r l =
     let e = range_period_end p x r l in
     record { date = e.date; is = e.is; is_date_lem = e.is_date_lem; from = e.from }
+
+-- ---- how far a due date slides
+
+slides : (x : ℕ) → is_date x ≡ true → Slides x
+slides x h =
+    record {
+      answer = record { date = kept_date x; slid = record { 0 = slide x } };
+      is = kept_is x h;
+      first = first_business_day_is x h;
+      counted = slide_counted x h;
+      limit = slide_near x h;
+      none = slide_none x h;
+    }
+
+pub slide_limit_lem : SlideLimit
+unfolding leap leap_day month_length is_date days_before year_start day_number year_at month_at date_in date_at date_of computus easter_sunday closed_by closed business_day is_open seek first_open first_business_day kept
+slide_limit_lem = record { every_date = slides; at_easter = refl; at_christmas = refl }

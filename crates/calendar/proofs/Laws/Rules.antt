@@ -8,7 +8,7 @@ use Rattle.calendar.proofs.Laws.Answers.{day_lt, in_calendar_day, in_calendar_is
 use Rattle.calendar.proofs.Laws.Easter.{table_years, easter_of_is, easter_day_of_date, easter_day_of_none}
 use Rattle.calendar.proofs.Laws.Open.{weekend_shut}
 use Rattle.calendar.proofs.Laws.BusinessDays.{first_open_from, first_open_lt, open_after_zero, open_after_more}
-use Rattle.calendar.proofs.Laws.BusinessDates.{first_business_day_day, first_business_day_none, last_business_day_day, last_business_day_none}
+use Rattle.calendar.proofs.Laws.BusinessDates.{kept_day, kept_none, last_business_day_day, last_business_day_none}
 use Rattle.calendar.proofs.Laws.Periods.{days_after_day, days_after_none, days_between_days, days_between_later, days_between_no_start, days_between_no_end, business_days_after_day, business_days_after_none, day_of_month_count_day, day_of_month_count_last, months_after_none, months_after_beyond, months_after_is, month_count_is, period_end_no_months, period_end_day, period_end_beyond}
 use Rattle.calendar.proofs.Laws.MonthCounts.{months_after_is_date}
 
@@ -36,7 +36,7 @@ pub ruleset of_is_open_day = (leap_day_le, weekend_shut)
 
 pub ruleset of_first_open = (in_calendar_day, in_calendar_is, in_calendar_none, in_calendar_beyond, first_open_from, first_open_lt)
 
-pub ruleset of_first_business_day = (first_business_day_day, first_business_day_none)
+pub ruleset of_kept = (kept_day, kept_none, first_open_from)
 
 pub ruleset of_last_business_day_before = (last_business_day_day, last_business_day_none)
 
