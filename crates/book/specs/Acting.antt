@@ -6,6 +6,7 @@ use Rattle.events.specs.declared.Event.{Event}
 use Rattle.tables.specs.Ledger.{Ledger}
 use Rattle.tables.specs.Lookup.{lookup_since}
 use Rattle.model.specs.Actions.{action_of}
+use Rattle.model.specs.declared.HandedOn.{HandedOn}
 use Rattle.model.specs.declared.Action.{Action}
 use Rattle.model.specs.declared.Action.TheVariants.{AddCreditor, AddMandate, ChangeMandate, Collect, Treat}
 use Rattle.records.specs.Records.{CreditorAdded, MandateAdded, MandateChanged, Collected}
@@ -33,7 +34,7 @@ abbrev pub collection_found : Event → Ledger → ℕ → Option ℕ
 collection_found e l since = cond (names_collection e.kind) (lookup_since l.collections l.collections_used e.a since) None
 
 -- from the ledger l to the ledger l'
-abbrev pub ActedOn : Option ℕ → Option ℕ → Ledger → ℕ → Action → Result Unit Refusal → Ledger → Type 0
+abbrev pub ActedOn : Option ℕ → Option ℕ → Ledger → ℕ → Action → Result HandedOn Refusal → Ledger → Type 0
 ActedOn mandate collection l date (AddCreditor number bank) r l' = CreditorAdded l date number bank r l'
 ActedOn mandate collection l date (AddMandate m) r l' = MandateAdded mandate l date m r l'
 ActedOn mandate collection l date (ChangeMandate n c) r l' = MandateChanged mandate l date c r l'
@@ -41,5 +42,5 @@ ActedOn mandate collection l date (Collect p) r l' = Collected mandate collectio
 ActedOn mandate collection l date (Treat n t) r l' = Treated collection l date t r l'
 
 -- by the rows that are found from a row on in each table
-abbrev pub ActedFrom : ℕ → ℕ → Ledger → Event → Result Unit Refusal → Ledger → Type 0
+abbrev pub ActedFrom : ℕ → ℕ → Ledger → Event → Result HandedOn Refusal → Ledger → Type 0
 ActedFrom i j l e r l' = ActedOn (mandate_found e l i) (collection_found e l j) l e.date (action_of e) r l'

@@ -7,7 +7,7 @@ ghost use Rattle.book.specs.Acting.{names_mandate, names_collection, named_manda
 
 use checking::actions::action_of;
 use events::Event;
-use model::Action;
+use model::{Action, HandedOn};
 use records::MandatesMut;
 use records::collects::collect;
 use records::creditors::add_creditor;
@@ -52,7 +52,7 @@ pub fn act(
     e: Event,
     mandate: Option<usize>,
     collection: Option<usize>,
-) -> Result<(), Refusal>
+) -> Result<HandedOn, Refusal>
     ensures loans { SameLoans book.old book.new }
     ensures acted { ActedOn mandate collection (ledger_in book.old) e.date (action_of e) result (ledger_in book.new) }
 {
@@ -82,7 +82,7 @@ pub fn act_from(
     e: Event,
     mandates_since: usize,
     collections_since: usize,
-) -> Result<(), Refusal>
+) -> Result<HandedOn, Refusal>
     ensures loans { SameLoans book.old book.new }
     ensures acted { ActedFrom mandates_since collections_since (ledger_in book.old) e result (ledger_in book.new) }
 {

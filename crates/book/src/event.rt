@@ -6,11 +6,12 @@ use crate::acting::act_from;
 use events::Event;
 use events::limits::check;
 use fitness::fitness::is_fit;
+use model::HandedOn;
 use refusals::Refusal;
 use tables::BookMut;
 
-// Any event, given to any lent memory.
-pub fn take_event(book: &mut BookMut, e: Event) -> Result<(), Refusal>
+// Any event, given to any lent memory. An accepted collect hands on the days that its due date slid.
+pub fn take_event(book: &mut BookMut, e: Event) -> Result<HandedOn, Refusal>
     ensures loans { SameLoans book.old book.new }
     ensures taken { Taken (ledger_in book.old) e result (ledger_in book.new) }
 {

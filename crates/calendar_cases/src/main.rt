@@ -1,5 +1,6 @@
 // Further cases of the calendar, for comparison with values that do not come from it (tests/calendar_oracle.py).
-// First some dates with all answers, then a line for each year with a digest of the answers for every day of it.
+// First some dates with all answers, then a line for each year: Easter, a digest of the answers for every day of it, and the most days that one
+// of them slides.
 #![tactic(auto)]
 
 ghost use Rattle.std.specs.Prelude.{◌<◌};
@@ -46,11 +47,17 @@ fn end_of(x: u64, months: u64, days: u64, business: u64) -> u64 {
     shown(periods::period_end(x, p))
 }
 
+// The days to the date to which a date is kept, or 0 where there is none.
+fn days_slid(x: u64) -> u64 {
+    target::kept(x).map_or(0, |kept| kept.slid.0)
+}
+
 // All answers for a date, in a row.
-fn answers(x: u64) -> [u64; 9] {
+fn answers(x: u64) -> [u64; 10] {
     [
         u64::from(target::is_business_day(x)),
-        shown(target::first_business_day(x)),
+        shown(target::kept(x).map(|kept| kept.date)),
+        days_slid(x),
         shown(target::last_business_day_before(x)),
         end_of(x, 0, 0, 5),
         end_of(x, 0, 56, 2),
@@ -92,12 +99,20 @@ fn year_digest(start: u64) -> u64
     sum
 }
 
+// The most days that a date of a year slides.
+fn most_slid(start: u64) -> u64
+    requires { start < 100000000 }
+{
+    (start + 101..start + 1232).map(days_slid).fold(0, u64::max)
+}
+
 fn show_year(rt: &impl Print, year: u64) -> io::Result<()>
     requires { year < 2200 }
 {
     put(rt, year)?;
     put(rt, shown(easter::easter_sunday(year)))?;
     put(rt, year_digest(year * 10000))?;
+    put(rt, most_slid(year * 10000))?;
     end_line(rt)
 }
 

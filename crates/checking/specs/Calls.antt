@@ -1,6 +1,6 @@
 -- What an action needs and leaves: the rows of what it names, an answer, and the ledger with the action's effect where it is
 -- accepted. Assumes nothing.
-use Rattle.std.specs.Prelude.{◌≡◌, Bool, true, false, List, ℕ, ltb, Option, Some, None, Result, Ok, Err}
+use Rattle.std.specs.Prelude.{◌≡◌, Bool, true, false, List, ℕ, ltb, Option, Some, None, Result}
 use Rattle.tables.specs.Ledger.{Ledger}
 use Rattle.tables.specs.Lookup.{existing}
 use Rattle.model.specs.Step.{after_answer}
@@ -22,15 +22,9 @@ abbrev pub found_row : Option ℕ → ℕ
 found_row (Some row) = row
 found_row None = 0
 
--- ---- the verdict: refused, or what passed every test
-
-abbrev pub verdict_by : {A : Type 0} → Result Unit Refusal → A → Result A Refusal
-verdict_by (Ok tt) a = Ok a
-verdict_by (Err r) a = Err r
-
 -- ---- what is left
 
 -- from the ledger l, which the action would make the ledger `changed`, to the ledger l'
-pub record Done (answer : Result Unit Refusal) (l changed : Ledger) (r : Result Unit Refusal) (l' : Ledger) : Type 0 where
+pub record Done {A : Type 0} (answer : Result A Refusal) (l changed : Ledger) (r : Result A Refusal) (l' : Ledger) : Type 0 where
   pub answer_is : r ≡ answer
   pub after_is : l' ≡ after_answer answer changed l

@@ -1,12 +1,12 @@
 // The kept due, when a collect comes in time, and when its mandate is lapsed.
 ghost use Rattle.std.specs.Prelude.{◌≡◌, not, ◌&&◌, ◌+◌, ltb};
 ghost use Rattle.calendar.specs.Target.{first_open};
-ghost use Rattle.model.specs.Deadlines.{kept_due, timely, lapsed_for};
+ghost use Rattle.model.specs.Deadlines.{kept_with_days, timely, lapsed_for};
 
 use calendar::gregorian::Day;
 use calendar::periods::{days_after, is_after, months_after};
-use calendar::target::{first_business_day, first_open_day, last_business_day_before};
-use calendar::{CalendarDays, Months};
+use calendar::target::{first_open_day, kept, last_business_day_before};
+use calendar::{CalendarDays, Kept, Months};
 
 // The most calendar days from the event date to the requested date.
 const DAYS_AHEAD: u64 = 14;
@@ -17,12 +17,18 @@ const OPEN_WITHIN: u64 = 5;
 // The months after which a mandate lapses.
 const LAPSE_MONTHS: u64 = 36;
 
-// The first business day on or after the requested date. 0 if there is none, as the rules have it: from a date in range there is one.
-#[tactic(auto, unfolding(model::specs::Deadlines::kept_due))]
-pub fn kept_due(requested: u64) -> u64
-    ensures { result ≡ kept_due requested }
+// What stands for the kept due where there is no date to be kept, as the rules have it: from a date in range there is one.
+const NO_DATE: Kept = Kept {
+    date: 0,
+    slid: CalendarDays(0),
+};
+
+// The first business day on or after the requested date, and the calendar days to it.
+#[tactic(auto, using(model::proofs::Laws::Handed::kept_both))]
+pub fn kept_due(requested: u64) -> Kept
+    ensures { result ≡ kept_with_days requested }
 {
-    first_business_day(requested).unwrap_or(0)
+    kept(requested).unwrap_or(NO_DATE)
 }
 
 // Whether a business day on or after the day lies before the due day. Then the day is not after the last business day
@@ -46,7 +52,7 @@ fn is_timely_by_dates(date: u64, requested: u64) -> bool
     ensures { result ≡ timely date requested }
 {
     !is_after(requested, days_after(date, CalendarDays(DAYS_AHEAD)))
-        & !is_after(date, last_business_day_before(kept_due(requested)))
+        & !is_after(date, last_business_day_before(kept_due(requested).date))
 }
 
 // Refusal 13, by the days of the calendar.

@@ -23,3 +23,4 @@ pub mod Sums  -- the sum of what the ledger answers
 pub mod Theorem  -- demand 3, proved
 pub mod Grown  -- every event leaves the used rows where they are, with their numbers
 pub mod Answers  -- the answers in the paper's numbers
+pub mod Handed  -- what an answer hands on: the days that a due date slid

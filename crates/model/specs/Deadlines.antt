@@ -2,8 +2,10 @@
 -- error here is caught by is worded in specs/Promises and specs/Journal. Assumes nothing.
 use Rattle.std.specs.Prelude.{Bool, cond, not, ◌&&◌, ℕ, ◌-◌, eqb, Option, Some, None}
 use Rattle.calendar.specs.DayNumber.{day_number}
-use Rattle.calendar.specs.Target.{first_business_day, last_business_day_before}
+use Rattle.calendar.specs.Target.{first_business_day, kept, last_business_day_before}
 use Rattle.calendar.specs.Periods.{days_after, months_after, period_end, is_after}
+use Rattle.calendar.specs.declared.CalendarDays.{CalendarDays}
+use Rattle.calendar.specs.declared.Kept.{Kept}
 use Rattle.calendar.specs.declared.Period.{Period}
 use Rattle.model.specs.declared.Way.{Way}
 use Rattle.model.specs.declared.Way.TheVariants.{ByReturn, ByRefund, ByReversal}
@@ -19,6 +21,17 @@ date_found None = 0
 -- "Kept due is the first business day on or after the requested date" ("Ten events")
 unfoldable pub kept_due : ℕ → ℕ
 kept_due requested = date_found (first_business_day requested)
+
+-- "together with the number of calendar days from the requested one" (document 02, (e)); none where no date is kept
+abbrev pub days_found : Option Kept → CalendarDays
+days_found (Some k) = k.slid
+days_found None = record { 0 = 0 }
+
+unfoldable pub slid : ℕ → CalendarDays
+slid requested = days_found (kept requested)
+
+abbrev pub kept_with_days : ℕ → Kept
+kept_with_days requested = record { date = kept_due requested; slid = slid requested }
 
 -- ---- when a collect comes, refusal 13
 

@@ -1,7 +1,7 @@
 -- Demand 3, "a single claim about the whole list, not one for each event" ("The journal"). `Demand3` is the statement;
 -- `Kept` has its parts, in the order in which they are demanded. proofs/Laws/Theorem has the proof.
--- Then `AgreesFromAnyStart`, the claim about lists that start on any tables, and what is promised of one call: `Timing`, `RefundsDated`,
--- `MandatesNotAsked`, `UnusedRows`, and the answers in numbers. Assumes nothing.
+-- Then `AgreesFromAnyStart`, the claim about lists that start on any tables, and what is promised of one call: `Timing`, `EventValues`,
+-- `CollectHandsOn`, `RefundsDated`, `MandatesNotAsked`, `UnusedRows`, and the answers in numbers. Assumes nothing.
 use Rattle.std.specs.Prelude.{◌≡◌, true, cond, ◌&&◌, List, [], ◌∷◌, ◌++◌, ℕ, zero, suc, ◌+◌, ◌*◌, ◌<◌, ◌≤◌, eqb, ℤ, pos, ◌+ℤ◌, length, get_or, Option, Some, Ok}
 use Rattle.calendar.specs.Gregorian.{in_range}
 use Rattle.calendar.specs.Target.{first_business_day, last_business_day_before}
@@ -18,6 +18,7 @@ use Rattle.opening.specs.Opening.{opening, opened}
 use Rattle.tables.specs.declared.Standing.TheVariants.{Live}
 use Rattle.model.specs.declared.Treatment.{Treatment}
 use Rattle.model.specs.declared.Action.TheVariants.{Treat}
+use Rattle.model.specs.declared.HandedOn.TheVariants.{Slid}
 use Rattle.model.specs.declared.Authorisation.{Authorisation}
 use Rattle.model.specs.declared.Way.TheVariants.{ByRefund}
 use Rattle.model.specs.Deadlines.{kept_due, timely, days_since}
@@ -25,7 +26,7 @@ use Rattle.model.specs.Lookups.{mandate_of, collection_of}
 use Rattle.model.specs.Lookups.Known.{known}
 use Rattle.model.specs.Checks.{ruled}
 use Rattle.model.specs.Effects.{undone}
-use Rattle.model.specs.Step.{answer_number, answer, event_number, after, in_query, figure_of, query, answered, run, Entry, history}
+use Rattle.model.specs.Step.{answer_number, is_accepted, answer, event_number, after, outcome, answer_value, event_value, in_query, figure_of, query, answered, run, Entry, history}
 use Rattle.model.specs.Journal.{NotedMandate, NotedCollection, Journal, journal_from, journal, figure_in}
 use Rattle.model.specs.Noted.{noted_known, SameKnown, started}
 
@@ -165,6 +166,24 @@ pub record PassesInGoodTime (date requested : ℕ) : Type 0 where
 abbrev pub Timing : Type 0
 Timing =
     (date requested : ℕ) → in_range date ≡ true → in_range requested ≡ true → PassesInGoodTime date requested
+
+-- ---- what a collect hands on: document 02, (e)
+
+-- the value of any answer, by the number that the event gets and its fields
+abbrev pub EventValues : Type 0
+EventValues = (l : Ledger) (e : Event) → answer_value (outcome l e) ≡ event_value l e
+
+-- the due date is kept so many calendar days after the requested one, at most 4
+pub record DaysHandedOn (l : Ledger) (e : Event) : Type 0 where
+  pub due : ℕ
+  pub is_due : first_business_day e.second ≡ Some due
+  pub handed : outcome l e ≡ Ok (Slid (record { 0 = event_value l e }))
+  pub counted : days_after (record { 0 = event_value l e }) e.second ≡ Some due
+  pub limit : event_value l e ≤ 4
+
+-- by any accepted collect, on any lent memory
+abbrev pub CollectHandsOn : Type 0
+CollectHandsOn = (l : Ledger) (e : Event) → is_accepted (answer l e) ≡ true → e.kind ≡ 5 → DaysHandedOn l e
 
 -- ---- what a refund posts
 

@@ -18,6 +18,11 @@ use Rattle.fitness.specs.Fitness.{fit}
 use Rattle.model.specs.Actions.{action_of}
 use Rattle.model.specs.Checks.{in_order, on_business_day, is_new, is_there, has_row, is_live, in_sequence, on_time, not_lapsed, in_state, not_before_due, by_last_day, ruled}
 use Rattle.model.specs.Effects.{effect}
+use Rattle.model.specs.Deadlines.{slid}
+use Rattle.model.specs.declared.Action.{Action}
+use Rattle.model.specs.declared.Action.TheVariants.{AddCreditor, AddMandate, ChangeMandate, Collect, Treat}
+use Rattle.model.specs.declared.HandedOn.{HandedOn}
+use Rattle.model.specs.declared.HandedOn.TheVariants.{Nothing, Slid}
 
 -- ---- one event
 
@@ -59,12 +64,43 @@ unfoldable pub event_number : Ledger → Event → ℕ
 event_number l e = judged (numbers l e) 0
 
 -- the ledger after an answer
-abbrev pub after_answer : Result Unit Refusal → Ledger → Ledger → Ledger
-after_answer (Ok tt) changed l = changed
+abbrev pub after_answer : {A : Type 0} → Result A Refusal → Ledger → Ledger → Ledger
+after_answer (Ok x) changed l = changed
 after_answer (Err r) changed l = l
 
 unfoldable pub after : Ledger → Event → Ledger
 after l e = after_answer (answer l e) (effect l e.date (action_of e)) l
+
+-- ---- what an accepted event hands on to its caller: document 02, (e)
+
+-- a collect the days that its due date slid, no other event anything
+abbrev pub handed_on : Action → HandedOn
+handed_on (AddCreditor number bank) = Nothing
+handed_on (AddMandate m) = Nothing
+handed_on (ChangeMandate number c) = Nothing
+handed_on (Collect p) = Slid (slid p.requested)
+handed_on (Treat number t) = Nothing
+
+-- an answer, with what it gives where it accepts
+abbrev pub verdict_by : {A : Type 0} → Result Unit Refusal → A → Result A Refusal
+verdict_by (Ok tt) a = Ok a
+verdict_by (Err r) a = Err r
+
+unfoldable pub outcome : Ledger → Event → Result HandedOn Refusal
+outcome l e = verdict_by (answer l e) (handed_on (action_of e))
+
+-- the value of an answer: the number handed on, 0 where there is none
+abbrev pub value_of : HandedOn → ℕ
+value_of Nothing = 0
+value_of (Slid days) = days.0
+
+abbrev pub answer_value : Result HandedOn Refusal → ℕ
+answer_value (Ok h) = value_of h
+answer_value (Err r) = 0
+
+-- the same by the fields of the event: of a collect, kind 5, that gets 0, the days from its second date to the kept due
+unfoldable pub event_value : Ledger → Event → ℕ
+event_value l e = cond (eqb (event_number l e) 0 && eqb e.kind 5) ((slid e.second).0) 0
 
 -- ---- a position query
 

@@ -1,7 +1,8 @@
 // The rules of document 01 over the whole ledger, and the theorem over every list of events: see specs/ and proofs/.
-// Here are only the types of what is asked, with the conversions of its codes and kinds.
+// Here are only the types of what is asked and handed on, with the conversions of codes and kinds.
 #![tactic(auto)]
 
+use calendar::CalendarDays;
 use refusals::Refusal;
 use tables::{Mandate, Undoing};
 
@@ -87,6 +88,13 @@ pub enum Action {
     ChangeMandate(u64, Change),
     Collect(Presentation),
     Treat(u64, Treatment),
+}
+
+// What an accepted event hands on to its caller: a collect the days that its due date slid, no other event anything.
+#[derive(Clone, Copy, Debug, PartialEq, Eq)]
+pub enum HandedOn {
+    Nothing,
+    Slid(CalendarDays),
 }
 
 // What a query asks for and a listing tells of: the position of a creditor, a debtor or a bank, or the total compensation.

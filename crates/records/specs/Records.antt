@@ -11,7 +11,10 @@ use Rattle.tables.specs.Ledger.{Ledger, ledger, added}
 use Rattle.tables.specs.Rows.{rows, mandate_at}
 use Rattle.model.specs.declared.Change.{Change}
 use Rattle.model.specs.declared.Presentation.{Presentation}
-use Rattle.model.specs.Deadlines.{kept_due, timely, lapsed_for}
+use Rattle.model.specs.Deadlines.{kept_due, slid, timely, lapsed_for}
+use Rattle.model.specs.Step.{verdict_by}
+use Rattle.model.specs.declared.HandedOn.{HandedOn}
+use Rattle.model.specs.declared.HandedOn.TheVariants.{Nothing, Slid}
 use Rattle.model.specs.Checks.{in_order, change_names, stands_live, takes}
 use Rattle.model.specs.Effects.{dated, with_creditors, keep_mandate, add_mandate, add_collection, changed, closes, presented_on, new_collection}
 use Rattle.checking.specs.Calls.{is_found, used_row, found_row, Done}
@@ -38,8 +41,8 @@ creditor_answer l date number = judged (creditor_checks l date number) (Ok tt)
 abbrev pub creditor_effect : Ledger → ℕ → ℕ → ℕ → Ledger
 creditor_effect l date number bank = with_creditors (dated l date) (set l.creditors (number - 1) bank)
 
-abbrev pub CreditorAdded : Ledger → ℕ → ℕ → ℕ → Result Unit Refusal → Ledger → Type 0
-CreditorAdded l date number bank r l' = Done (creditor_answer l date number) l (creditor_effect l date number bank) r l'
+abbrev pub CreditorAdded : Ledger → ℕ → ℕ → ℕ → Result HandedOn Refusal → Ledger → Type 0
+CreditorAdded l date number bank r l' = Done (verdict_by (creditor_answer l date number) Nothing) l (creditor_effect l date number bank) r l'
 
 -- ---- event 2
 
@@ -54,8 +57,8 @@ mandate_checks found l date m =
 abbrev pub mandate_answer : Option ℕ → Ledger → ℕ → Mandate → Result Unit Refusal
 mandate_answer found l date m = judged (mandate_checks found l date m) (Ok tt)
 
-abbrev pub MandateAdded : Option ℕ → Ledger → ℕ → Mandate → Result Unit Refusal → Ledger → Type 0
-MandateAdded found l date m r l' = Done (mandate_answer found l date m) l (add_mandate (dated l date) m) r l'
+abbrev pub MandateAdded : Option ℕ → Ledger → ℕ → Mandate → Result HandedOn Refusal → Ledger → Type 0
+MandateAdded found l date m r l' = Done (verdict_by (mandate_answer found l date m) Nothing) l (add_mandate (dated l date) m) r l'
 
 -- ---- events 3 and 4
 
@@ -80,8 +83,8 @@ change_answer found l date c = judged (change_checks l.latest date c (mandate_th
 abbrev pub change_effect : Option ℕ → Ledger → ℕ → Change → Ledger
 change_effect found l date c = keep_mandate (dated l date) (found_row found) (changed c (mandate_in found l))
 
-abbrev pub MandateChanged : Option ℕ → Ledger → ℕ → Change → Result Unit Refusal → Ledger → Type 0
-MandateChanged found l date c r l' = Done (change_answer found l date c) l (change_effect found l date c) r l'
+abbrev pub MandateChanged : Option ℕ → Ledger → ℕ → Change → Result HandedOn Refusal → Ledger → Type 0
+MandateChanged found l date c r l' = Done (verdict_by (change_answer found l date c) Nothing) l (change_effect found l date c) r l'
 
 -- ---- event 5
 
@@ -112,6 +115,7 @@ collect_effect found l date p =
     (keep_mandate (dated l date) (found_row found) (presented_on p (mandate_in found l)))
     (new_collection l.creditors p (mandate_in found l))
 
-abbrev pub Collected : Option ℕ → Option ℕ → Ledger → ℕ → Presentation → Result Unit Refusal → Ledger → Type 0
+-- handed on are the days that the due date slid
+abbrev pub Collected : Option ℕ → Option ℕ → Ledger → ℕ → Presentation → Result HandedOn Refusal → Ledger → Type 0
 Collected mandate collection l date p r l' =
-    Done (collect_answer mandate collection l date p) l (collect_effect mandate l date p) r l'
+    Done (verdict_by (collect_answer mandate collection l date p) (Slid (slid p.requested))) l (collect_effect mandate l date p) r l'

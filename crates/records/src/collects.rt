@@ -1,41 +1,41 @@
 // Event 5: a collection is presented.
 ghost use Rattle.std.specs.Prelude.{◌≡◌, List, [], ℤ};
 ghost use Rattle.model.specs.Checks.{takes};
-ghost use Rattle.model.specs.Deadlines.{kept_due};
 ghost use Rattle.model.specs.Effects.{presented_on, new_collection};
-ghost use Rattle.checking.specs.Calls.{verdict_by};
+ghost use Rattle.model.specs.Step.{verdict_by};
 ghost use Rattle.records.specs.Records.{ledger_with, mandate_in, collect_answer, standing_after, Collected};
 
 use crate::MandatesMut;
 use crate::mandates::{is_live, mandate_in, mandate_there};
+use calendar::Kept;
 use checking::found_row;
 use deadlines::collects::{is_lapsed, is_timely, kept_due};
-use model::Presentation;
+use model::{HandedOn, Presentation};
 use refusals::{Refusal, ensure};
 use std::marker::Model;
 use tables::creditors::bank_of;
 use tables::rows::{put_record, rows_of};
 use tables::{Collection, Mandate, Standing, State};
 
-// A presentation with its kept due, which is worked out once. Clauses see the presentation.
+// A presentation with its kept due and the days to it, which are worked out once. Clauses see the presentation.
 #[derive(Clone, Copy)]
 struct KeptPresentation {
     asked: Presentation,
-    due: u64,
+    kept: Kept,
 }
 
 impl Model for KeptPresentation {
     ghost use Rattle.std.specs.Prelude.{◌≡◌};
     ghost use Rattle.model.specs.declared.Presentation.{Presentation};
-    ghost use Rattle.model.specs.Deadlines.{kept_due};
+    ghost use Rattle.model.specs.Deadlines.{kept_with_days};
 
     ghost Value = { Presentation };
 
     ghost view = { λ k. k.asked };
 
-    ghost invariant = { λ k. k.due ≡ kept_due k.asked.requested };
+    ghost invariant = { λ k. k.kept ≡ kept_with_days k.asked.requested };
 
-    ghost inverse = { λ p. record { asked = p; due = kept_due p.requested } };
+    ghost inverse = { λ p. record { asked = p; kept = kept_with_days p.requested } };
 }
 
 // Whether the mandate takes the sequence code, a number as in `Presentation`: 0 FRST, 1 RCUR, 2 FNAL, 3 OOFF.
@@ -73,12 +73,12 @@ fn judge_collect(
     ensure(is_live(m.standing), Refusal::NotLive)?;
     ensure(takes_code(m, p.code), Refusal::WrongSequence)?;
     ensure(is_timely(date, p.requested), Refusal::BadTiming)?;
-    let kept = KeptPresentation {
-        asked: p,
-        due: kept_due(p.requested),
-    };
-    ensure(!is_lapsed(kept.due, m.presented, m.signed), Refusal::Lapsed)?;
-    Ok((m, kept))
+    let kept = kept_due(p.requested);
+    ensure(
+        !is_lapsed(kept.date, m.presented, m.signed),
+        Refusal::Lapsed,
+    )?;
+    Ok((m, KeptPresentation { asked: p, kept }))
 }
 
 // FNAL and OOFF, codes 2 and 3, close the mandate. The code is a number, as in `Presentation`.
@@ -99,7 +99,7 @@ fn presented_on(p: KeptPresentation, m: Mandate) -> Mandate
     Mandate {
         standing: standing_after(p.asked.code, m.standing),
         first: m.first & (p.asked.code != 0),
-        presented: p.due,
+        presented: p.kept.date,
         ..m
     }
 }
@@ -116,12 +116,13 @@ fn new_collection(creditors: &[u64], p: KeptPresentation, m: Mandate) -> Collect
         cbank: bank_of(creditors, m.creditor),
         dbank: m.bank,
         amount: p.asked.amount,
-        due: p.due,
+        due: p.kept.date,
         state: State::Presented,
     }
 }
 
 // Event 5: the collection goes into the next row, and the mandate into its own. `mandate` and `collection` are the rows of their numbers.
+// Handed on are the days that the due date slid.
 pub fn collect(
     lent: &mut MandatesMut,
     collections: &mut [u64],
@@ -129,16 +130,16 @@ pub fn collect(
     p: Presentation,
     mandate: Option<usize>,
     collection: Option<usize>,
-) -> Result<(), Refusal>
+) -> Result<HandedOn, Refusal>
     ensures loans { lent.new.mandates.ghost_name ≡ lent.old.mandates.ghost_name }
     ensures collected { (cp dp bp : List ℤ) → Collected mandate collection (ledger_with lent.old collections.old cp dp bp) date p result (ledger_with lent.new collections.new cp dp bp) }
 {
-    let (m, kept) = judge_collect(lent, collections, date, p, mandate, collection)?;
+    let (m, presented) = judge_collect(lent, collections, date, p, mandate, collection)?;
     let used = lent.header.collections;
-    let c = new_collection(lent.creditors, kept, m);
-    put_record(lent.mandates, found_row(mandate), presented_on(kept, m));
+    let c = new_collection(lent.creditors, presented, m);
+    put_record(lent.mandates, found_row(mandate), presented_on(presented, m));
     put_record(collections, used, c);
     lent.header.latest = date;
     lent.header.collections = used + 1;
-    Ok(())
+    Ok(HandedOn::Slid(presented.kept.slid))
 }

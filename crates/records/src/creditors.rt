@@ -3,6 +3,7 @@ ghost use Rattle.std.specs.Prelude.{◌≡◌, ◌-◌, ◌≤◌, length, set};
 ghost use Rattle.tables.specs.Ledger.{ledger_in, SameLoans};
 ghost use Rattle.records.specs.Records.{creditor_answer, CreditorAdded};
 
+use model::HandedOn;
 use refusals::{Refusal, ensure};
 use tables::BookMut;
 use tables::creditors::is_added;
@@ -25,12 +26,17 @@ fn put_bank(creditors: &mut [u64], number: u64, bank: u64)
 }
 
 // The creditor of a number gets its bank.
-pub fn add_creditor(book: &mut BookMut, date: u64, number: u64, bank: u64) -> Result<(), Refusal>
+pub fn add_creditor(
+    book: &mut BookMut,
+    date: u64,
+    number: u64,
+    bank: u64,
+) -> Result<HandedOn, Refusal>
     ensures loans { SameLoans book.old book.new }
     ensures added { CreditorAdded (ledger_in book.old) date number bank result (ledger_in book.new) }
 {
     judge_creditor(book, date, number)?;
     put_bank(book.creditors, number, bank);
     book.header.latest = date;
-    Ok(())
+    Ok(HandedOn::Nothing)
 }

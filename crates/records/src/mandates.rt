@@ -3,12 +3,13 @@ ghost use Rattle.std.specs.Prelude.{◌≡◌, List, [], ℕ, ℤ};
 ghost use Rattle.tables.specs.Rows.{mandate_at};
 ghost use Rattle.model.specs.Checks.{change_names, stands_live};
 ghost use Rattle.model.specs.Effects.{changed};
-ghost use Rattle.checking.specs.Calls.{used_row, found_row, verdict_by};
+ghost use Rattle.model.specs.Step.{verdict_by};
+ghost use Rattle.checking.specs.Calls.{used_row, found_row};
 ghost use Rattle.records.specs.Records.{ledger_with, mandate_answer, MandateAdded, mandate_in, change_answer, MandateChanged};
 
 use crate::MandatesMut;
 use checking::{found_row, is_used};
-use model::Change;
+use model::{Change, HandedOn};
 use refusals::{Refusal, ensure};
 use tables::creditors::is_added;
 use tables::rows::{put_record, record_at, rows_of};
@@ -59,7 +60,7 @@ pub fn add_mandate(
     date: u64,
     m: Mandate,
     found: Option<usize>,
-) -> Result<(), Refusal>
+) -> Result<HandedOn, Refusal>
     ensures loans { lent.new.mandates.ghost_name ≡ lent.old.mandates.ghost_name }
     ensures added { (c : List ℕ) (cp dp bp : List ℤ) → MandateAdded found (ledger_with lent.old c cp dp bp) date m result (ledger_with lent.new c cp dp bp) }
 {
@@ -68,7 +69,7 @@ pub fn add_mandate(
     put_record(lent.mandates, used, m);
     lent.header.latest = date;
     lent.header.mandates = used + 1;
-    Ok(())
+    Ok(HandedOn::Nothing)
 }
 
 // Whether the creditor that a change names, if any, exists.
@@ -122,12 +123,12 @@ pub fn change_mandate(
     date: u64,
     change: Change,
     found: Option<usize>,
-) -> Result<(), Refusal>
+) -> Result<HandedOn, Refusal>
     ensures loans { lent.new.mandates.ghost_name ≡ lent.old.mandates.ghost_name }
     ensures changed { (c : List ℕ) (cp dp bp : List ℤ) → MandateChanged found (ledger_with lent.old c cp dp bp) date change result (ledger_with lent.new c cp dp bp) }
 {
     let m = judge_change(lent, date, change, found)?;
     put_record(lent.mandates, found_row(found), changed_mandate(change, m));
     lent.header.latest = date;
-    Ok(())
+    Ok(HandedOn::Nothing)
 }

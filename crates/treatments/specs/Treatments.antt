@@ -21,6 +21,9 @@ use Rattle.model.specs.declared.Treatment.{Treatment}
 use Rattle.model.specs.declared.Treatment.TheVariants.{Settle, Reject, Undo}
 use Rattle.model.specs.Checks.{settled_on, day_treated, state_fits, due_treated, time_treated}
 use Rattle.model.specs.Effects.{dated, keep_collection, with_postings, treated}
+use Rattle.model.specs.declared.HandedOn.{HandedOn}
+use Rattle.model.specs.declared.HandedOn.TheVariants.{Nothing}
+use Rattle.model.specs.Step.{verdict_by}
 use Rattle.checking.specs.Calls.{used_row, found_row, Done}
 use Rattle.treatments.specs.declared.verdicts.Verdict.{Verdict}
 use Rattle.treatments.specs.declared.verdicts.Verdict.TheVariants.{Mark, Post}
@@ -136,6 +139,6 @@ abbrev pub verdict_at : Option ℕ → Ledger → ℕ → Treatment → Result V
 verdict_at found l date t =
     verdict_on l.latest date t (used_row l.collections l.collections_used found) (collection_at l.collections (found_row found))
 
-abbrev pub Treated : Option ℕ → Ledger → ℕ → Treatment → Result Unit Refusal → Ledger → Type 0
+abbrev pub Treated : Option ℕ → Ledger → ℕ → Treatment → Result HandedOn Refusal → Ledger → Type 0
 Treated found l date t r l' =
-    Done (answer_for (verdict_at found l date t) l) l (effect_for (verdict_at found l date t) (found_row found) date l) r l'
+    Done (verdict_by (answer_for (verdict_at found l date t) l) Nothing) l (effect_for (verdict_at found l date t) (found_row found) date l) r l'

@@ -2,12 +2,14 @@
 ghost use Rattle.std.specs.Prelude.{true, ◌≡◌};
 ghost use Rattle.positions.specs.Positions.{in_limit, position_limit};
 ghost use Rattle.tables.specs.Ledger.{ledger_in, SameLoans};
+ghost use Rattle.model.specs.declared.HandedOn.TheVariants.{Nothing};
+ghost use Rattle.model.specs.Step.{verdict_by};
 ghost use Rattle.checking.specs.Calls.{Done};
 ghost use Rattle.treatments.specs.Treatments.{held, postable, header_after, pay_answer, pay_effect, Treated};
 
 use crate::verdicts::{Verdict, verdict_at};
 use checking::found_row;
-use model::Treatment;
+use model::{HandedOn, Treatment};
 use positions::Postings;
 use positions::posting::{in_limit, is_entry, position_of, post};
 use refusals::Refusal;
@@ -60,15 +62,21 @@ fn write(book: &mut BookMut, date: u64, row: usize, k: Collection, p: Postings)
 }
 
 // Writes and posts, or refuses amounts that cannot be posted.
-fn pay(book: &mut BookMut, date: u64, row: usize, k: Collection, p: Postings) -> Result<(), Refusal>
+fn pay(
+    book: &mut BookMut,
+    date: u64,
+    row: usize,
+    k: Collection,
+    p: Postings,
+) -> Result<HandedOn, Refusal>
     ensures loans { SameLoans book.old book.new }
-    ensures done { Done (pay_answer k p (ledger_in book.old)) (ledger_in book.old) (pay_effect row date k p (ledger_in book.old)) result (ledger_in book.new) }
+    ensures done { Done (verdict_by (pay_answer k p (ledger_in book.old)) Nothing) (ledger_in book.old) (pay_effect row date k p (ledger_in book.old)) result (ledger_in book.new) }
 {
     if !is_postable(book, k, p) {
         return Err(Refusal::UnfitMemory);
     }
     write(book, date, row, k, p);
-    Ok(())
+    Ok(HandedOn::Nothing)
 }
 
 // Events 6 to 10: the collection in the row that was found is treated.
@@ -77,7 +85,7 @@ pub fn treat(
     date: u64,
     t: Treatment,
     found: Option<usize>,
-) -> Result<(), Refusal>
+) -> Result<HandedOn, Refusal>
     ensures loans { SameLoans book.old book.new }
     ensures treated { Treated found (ledger_in book.old) date t result (ledger_in book.new) }
 {
@@ -85,7 +93,7 @@ pub fn treat(
         Verdict::Mark(k) => {
             put_record(book.collections, found_row(found), k);
             book.header.latest = date;
-            Ok(())
+            Ok(HandedOn::Nothing)
         }
         Verdict::Post(k, p) => pay(book, date, found_row(found), k, p),
     }

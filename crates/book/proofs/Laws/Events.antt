@@ -25,11 +25,12 @@ use Rattle.model.specs.declared.Way.{Way}
 use Rattle.model.specs.declared.Way.TheVariants.{ByReturn, ByRefund, ByReversal}
 use Rattle.model.specs.Actions.{new_mandate, amendment, presentation, authorisation, action_of}
 use Rattle.model.specs.Checks.{ruled}
-use Rattle.model.specs.Effects.{effect}
-use Rattle.model.specs.Step.{answer_number, answer, after}
+use Rattle.model.specs.declared.HandedOn.{HandedOn}
+use Rattle.model.specs.Step.{answer_number, answer_value, answer, after, handed_on, outcome}
+use Rattle.model.proofs.Laws.Handed.{verdict_number, event_values}
 use Rattle.model.proofs.Laws.Actions.{action_creditor, action_mandate, action_amend, action_cancel, action_collect, action_settle, action_reject, action_return, action_refund, action_reversal}
 use Rattle.model.proofs.Laws.Answers.{event_numbers}
-use Rattle.checking.specs.Calls.{Done}
+use Rattle.checking.proofs.Laws.Calls.{AsRuled, after_verdict}
 use Rattle.records.proofs.Laws.Records.{creditor_ruled, mandate_ruled, change_ruled, collect_ruled}
 use Rattle.treatments.proofs.Laws.Ready.{rate_of, treat_ruled}
 use Rattle.book.specs.Acting.{names_mandate, names_collection, mandate_found, collection_found, ActedOn, ActedFrom}
@@ -55,10 +56,10 @@ found_for e l mandate collection mandateSince collectionSince s t m c = record {
 
 -- ---- acting on the event is the model's answer and effect
 
-module _ (l : Ledger) (e : Event) (mandate collection : Option ℕ) (r : Result Unit Refusal) (l' : Ledger)
+module _ (l : Ledger) (e : Event) (mandate collection : Option ℕ) (r : Result HandedOn Refusal) (l' : Ledger)
     (f : fit l ≡ true) (w : checked e ≡ (Ok tt)) (n : FoundFor e l mandate collection) where
   abbrev Ruled : Action → Type 0
-  Ruled a = ActedOn mandate collection l e.date a r l' → Done (ruled l e.date a) l (effect l e.date a) r l'
+  Ruled a = ActedOn mandate collection l e.date a r l' → AsRuled l e.date a r l'
 
   -- an event of a kind that asks for the action a
   asks : (a : Action) → action_of e ≡ a → Ruled a → Ruled (action_of e)
@@ -119,42 +120,48 @@ module _ (l : Ledger) (e : Event) (mandate collection : Option ℕ) (r : Result 
 -- ---- the call
 
 module _ (l : Ledger) (e : Event) where
-  made : (r : Result Unit Refusal) (l' : Ledger) → r ≡ answer l e → l' ≡ after l e → Taken l e r l'
-  made r l' a b = record { answer_is = a; number_is = ap answer_number a ∙ event_numbers l e; after_is = b }
+  made : (r : Result HandedOn Refusal) (l' : Ledger) → r ≡ outcome l e → l' ≡ after l e → Taken l e r l'
+  unfolding outcome
+  made r l' a b = record {
+    outcome_is = a;
+    number_is = ap (λ (x : Result HandedOn Refusal). answer_number x) a ∙ verdict_number (answer l e) (handed_on (action_of e)) ∙ event_numbers l e;
+    value_is = ap answer_value a ∙ event_values l e;
+    after_is = b;
+  }
 
   pub taken_unfit : fit l ≡ false → Taken l e (Err UnfitMemory) l
-  unfolding answer after
+  unfolding outcome answer after
   taken_unfit f = made (Err UnfitMemory) l (rw f) (rw f)
 
   pub taken_refused : (r : Refusal) → fit l ≡ true → checked e ≡ Err r → Taken l e (Err r) l
-  unfolding answer after
+  unfolding outcome answer after
   taken_refused r f c = made (Err r) l (rw (f, c)) (rw (f, c))
 
   pub acted_taken :
-      (mandate collection : Option ℕ) (r : Result Unit Refusal) (l' : Ledger) → fit l ≡ true → checked e ≡ (Ok tt) → FoundFor e l mandate collection
+      (mandate collection : Option ℕ) (r : Result HandedOn Refusal) (l' : Ledger) → fit l ≡ true → checked e ≡ (Ok tt) → FoundFor e l mandate collection
       → ActedOn mandate collection l e.date (action_of e) r l' → Taken l e r l'
-  unfolding answer after
+  unfolding outcome answer after
   acted_taken mandate collection r l' f w n d =
       let s = acted_ruled l e mandate collection r l' f w n d in
-      made r l' (rw (f, w) s.answer_is) (rw (f, w) s.after_is)
+      made r l' (rw (f, w) s.answer_is) (rw (f, w) (s.after_is ∙ after_verdict (ruled l e.date (action_of e)) (handed_on (action_of e)) _ l))
 
   -- by the rows that are found from a row on in each table
   pub acted_from :
-      (mandate collection : Option ℕ) (i j : ℕ) (r : Result Unit Refusal) (l' : Ledger) → mandate ≡ mandate_found e l i → collection ≡ collection_found e l j
+      (mandate collection : Option ℕ) (i j : ℕ) (r : Result HandedOn Refusal) (l' : Ledger) → mandate ≡ mandate_found e l i → collection ≡ collection_found e l j
       → ActedOn mandate collection l e.date (action_of e) r l' → ActedFrom i j l e r l'
   acted_from mandate collection i j r l' m c d =
       subst (λ (x : Option ℕ). ActedOn x (collection_found e l j) l e.date (action_of e) r l') m
       (subst (λ (x : Option ℕ). ActedOn mandate x l e.date (action_of e) r l') c d)
 
   pub taken_from :
-      (i j : ℕ) (r : Result Unit Refusal) (l' : Ledger) → fit l ≡ true → checked e ≡ (Ok tt)
+      (i j : ℕ) (r : Result HandedOn Refusal) (l' : Ledger) → fit l ≡ true → checked e ≡ (Ok tt)
       → (names_mandate e.kind ≡ true → MayStart l.mandates l.mandates_used e.mandate i)
       → (names_collection e.kind ≡ true → MayStart l.collections l.collections_used e.a j)
       → ActedFrom i j l e r l' → Taken l e r l'
   taken_from i j r l' f w s t d = acted_taken _ _ r l' f w (found_for e l _ _ i j s t refl refl) d
 
   -- and from the first row
-  pub taken_first : (r : Result Unit Refusal) (l' : Ledger) → fit l ≡ true → checked e ≡ (Ok tt) → ActedFrom 0 0 l e r l' → Taken l e r l'
+  pub taken_first : (r : Result HandedOn Refusal) (l' : Ledger) → fit l ≡ true → checked e ≡ (Ok tt) → ActedFrom 0 0 l e r l' → Taken l e r l'
   taken_first r l' f w d =
       taken_from 0 0 r l' f w
       (λ n. lookup_since_first l.mandates l.mandates_used e.mandate)

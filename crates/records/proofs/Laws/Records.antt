@@ -1,8 +1,8 @@
 -- Laws of specs/Records: what a verdict on a collect says, and that answers and effects are the model's where the rows are those of
--- the numbers. To cite: `verdict_go`, `collected_refused`, `collected_done`; `creditor_beside`; `creditor_ruled`, `mandate_ruled`, `change_ruled`,
+-- the numbers. To cite: `collected_refused`, `collected_done`; `creditor_beside`; `creditor_ruled`, `mandate_ruled`, `change_ruled`,
 -- `collect_ruled`. Assumes nothing.
 use Rattle.std.proofs.Common.{Err, None, Ok, Option, Result, Some, ℕ}
-use mathlib.Core.Path.{◌≡◌, refl, sym}
+use mathlib.Core.Path.{◌≡◌, refl, sym, ap}
 use mathlib.Core.Bool.{false, true}
 use mathlib.Core.List.{List}
 use Prim.Native.Nat.{ℕ, ◌≤◌}
@@ -21,41 +21,46 @@ use Rattle.model.specs.declared.Action.TheVariants.{AddCreditor, AddMandate, Cha
 use Rattle.model.specs.declared.Change.{Change}
 use Rattle.model.specs.declared.Presentation.{Presentation}
 use Rattle.model.specs.Lookups.{is_known, in_row, mandate_of, collection_of}
+use Rattle.calendar.specs.declared.CalendarDays.{CalendarDays}
+use Rattle.model.specs.declared.HandedOn.{HandedOn}
+use Rattle.model.specs.declared.HandedOn.TheVariants.{Nothing, Slid}
+use Rattle.model.specs.Deadlines.{slid}
+use Rattle.model.specs.Step.{verdict_by}
+use Rattle.model.proofs.Laws.Handed.{verdict_go, verdict_refuse}
 use Rattle.model.specs.Checks.{ruled}
 use Rattle.model.specs.Effects.{effect, dated, keep_mandate, add_collection, presented_on, new_collection}
-use Rattle.checking.specs.Calls.{is_found, used_row, found_row, verdict_by, Done}
-use Rattle.checking.proofs.Laws.Calls.{done_refused, done_accepted, done_same, done_beside, judged_passes}
+use Rattle.checking.specs.Calls.{is_found, used_row, found_row}
+use Rattle.checking.proofs.Laws.Calls.{done_refused, done_accepted, AsRuled, done_same, done_beside, judged_passes}
 use Rattle.records.specs.Records.{mandate_in, CreditorAdded, MandateAdded, change_checks, change_answer, change_effect, MandateChanged, collect_checks, collect_answer, collect_effect, Collected}
 
 -- ---- the verdict on a collect
 
-pub verdict_go : {A : Type 0} (a : Result Unit Refusal) (p x : A) → verdict_by a p ≡ Ok x → (a ≡ (Ok tt)) × (x ≡ p)
-verdict_go (Ok tt) p x e = (refl, cc)
-verdict_go (Err r) p x e = absurd cc
-
-verdict_refuse : {A : Type 0} (a : Result Unit Refusal) (p : A) (r : Refusal) → verdict_by a p ≡ Err r → a ≡ Err r
-verdict_refuse (Ok tt) p r e = absurd cc
-verdict_refuse (Err x) p r e = cc
-
 module _ (mandate collection : Option ℕ) (l : Ledger) (date : ℕ) (p : Presentation) where
+  -- what a collect answers, by the verdict
+  slid_by : (a b : Result Unit Refusal) → a ≡ b → verdict_by a (Slid (slid p.requested)) ≡ verdict_by b (Slid (slid p.requested))
+  slid_by a b e = ap (λ (x : Result Unit Refusal). verdict_by x (Slid (slid p.requested))) e
+
   pub collected_refused : {A : Type 0} (a : A)
-      (x : Refusal) (r : Result Unit Refusal) → verdict_by (collect_answer mandate collection l date p) a ≡ Err x
+      (x : Refusal) (r : Result HandedOn Refusal) → verdict_by (collect_answer mandate collection l date p) a ≡ Err x
       → r ≡ Err x → Collected mandate collection l date p r l
   collected_refused a x r e f =
-      rw f (done_refused _ l _ x (verdict_refuse (collect_answer mandate collection l date p) a x e))
+      rw f (done_refused _ l _ x (slid_by _ (Err x) (verdict_refuse (collect_answer mandate collection l date p) a x e)))
 
   pub collected_done :
-      (v : Mandate × Presentation) (l' : Ledger) → verdict_by (collect_answer mandate collection l date p) (mandate_in mandate l, p) ≡ Ok v
+      (v : Mandate × Presentation) (days : CalendarDays) (l' : Ledger)
+      → verdict_by (collect_answer mandate collection l date p) (mandate_in mandate l, p) ≡ Ok v
+      → days ≡ slid v.1.requested
       → l' ≡ add_collection (keep_mandate (dated l date) (found_row mandate) (presented_on v.1 v.0)) (new_collection l.creditors v.1 v.0)
-      → Collected mandate collection l date p (Ok tt) l'
-  collected_done v l' e f =
+      → Collected mandate collection l date p (Ok (Slid days)) l'
+  collected_done v days l' e s f =
       let w = verdict_go (collect_answer mandate collection l date p) (mandate_in mandate l, p) v e in
-      done_accepted _ _ _ l' w.0 (rw w.1 at f)
+      let q : days ≡ slid p.requested = rw w.1 at s in
+      done_accepted _ _ _ (Slid days) l' (rw q (slid_by _ (Ok tt) w.0)) (rw w.1 at f)
 
 -- ---- event 1, whatever tables there are besides the creditors
 
 pub creditor_beside :
-    (a b : BookMut) (date number bank : ℕ) (r : Result Unit Refusal) → CreditorAdded (ledger_in a) date number bank r (ledger_in b)
+    (a b : BookMut) (date number bank : ℕ) (r : Result HandedOn Refusal) → CreditorAdded (ledger_in a) date number bank r (ledger_in b)
     → (m c : List ℕ) (cp dp bp : List ℤ)
     → CreditorAdded (ledger a.header m c a.creditors.now cp dp bp) date number bank r (ledger b.header m c b.creditors.now cp dp bp)
 creditor_beside a b date number bank r d m c cp dp bp =
@@ -83,18 +88,18 @@ is_known_collection : (l : Ledger) (number : ℕ) → is_known (collection_of l 
 unfolding collection_of
 is_known_collection l number = is_known_row (lookup l.collections l.collections_used number) (collection_at l.collections)
 
-module _ (l : Ledger) (date : ℕ) (r : Result Unit Refusal) (l' : Ledger) where
-  pub creditor_ruled : (number bank : ℕ) → 1 ≤ number → number ≤ length l.creditors → CreditorAdded l date number bank r l' → Done (ruled l date (AddCreditor number bank)) l (effect l date (AddCreditor number bank)) r l'
+module _ (l : Ledger) (date : ℕ) (r : Result HandedOn Refusal) (l' : Ledger) where
+  pub creditor_ruled : (number bank : ℕ) → 1 ≤ number → number ≤ length l.creditors → CreditorAdded l date number bank r l' → AsRuled l date (AddCreditor number bank) r l'
   unfolding ruled effect
   creditor_ruled number bank h k d =
-      done_same _ _ l _ _ r l' (rw (le-leb 1 number h, le-leb number (length l.creditors) k)) (λ _. refl) d
+      done_same Nothing _ _ l _ _ r l' (rw (le-leb 1 number h, le-leb number (length l.creditors) k)) (λ _. refl) d
 
   pub mandate_ruled :
       (found : Option ℕ) (m : Mandate) → found ≡ lookup l.mandates l.mandates_used m.number
-      → MandateAdded found l date m r l' → Done (ruled l date (AddMandate m)) l (effect l date (AddMandate m)) r l'
+      → MandateAdded found l date m r l' → AsRuled l date (AddMandate m) r l'
   unfolding ruled effect
   mandate_ruled found m e d =
-      done_same _ _ l _ _ r l' (rw (is_known_mandate l m.number, e)) (λ _. refl) d
+      done_same Nothing _ _ l _ _ r l' (rw (is_known_mandate l m.number, e)) (λ _. refl) d
 
 -- a row that a lookup finds is a used one
 found_used : (cells : List ℕ) (used number row : ℕ) → lookup cells used number ≡ Some row → used_row cells used (Some row) ≡ true
@@ -113,11 +118,11 @@ module _ (l : Ledger) (date number : ℕ) (c : Change) where
   change_effect_lem (Some row) e a = rw e
 
 pub change_ruled :
-    (l : Ledger) (date : ℕ) (r : Result Unit Refusal) (l' : Ledger) (found : Option ℕ) (number : ℕ) (c : Change)
+    (l : Ledger) (date : ℕ) (r : Result HandedOn Refusal) (l' : Ledger) (found : Option ℕ) (number : ℕ) (c : Change)
     → found ≡ lookup l.mandates l.mandates_used number
-    → MandateChanged found l date c r l' → Done (ruled l date (ChangeMandate number c)) l (effect l date (ChangeMandate number c)) r l'
+    → MandateChanged found l date c r l' → AsRuled l date (ChangeMandate number c) r l'
 change_ruled l date r l' found number c e d =
-    done_same _ _ l _ _ r l' (change_answer_lem l date number c found (sym e)) (change_effect_lem l date number c found (sym e)) d
+    done_same Nothing _ _ l _ _ r l' (change_answer_lem l date number c found (sym e)) (change_effect_lem l date number c found (sym e)) d
 
 module _ (l : Ledger) (date : ℕ) (p : Presentation) where
   collect_answer_lem :
@@ -135,8 +140,8 @@ module _ (l : Ledger) (date : ℕ) (p : Presentation) where
   collect_effect_lem (Some row) g e a = rw e
 
 pub collect_ruled :
-    (l : Ledger) (date : ℕ) (r : Result Unit Refusal) (l' : Ledger) (mandate collection : Option ℕ) (p : Presentation)
+    (l : Ledger) (date : ℕ) (r : Result HandedOn Refusal) (l' : Ledger) (mandate collection : Option ℕ) (p : Presentation)
     → mandate ≡ lookup l.mandates l.mandates_used p.mandate → collection ≡ lookup l.collections l.collections_used p.collection
-    → Collected mandate collection l date p r l' → Done (ruled l date (Collect p)) l (effect l date (Collect p)) r l'
+    → Collected mandate collection l date p r l' → AsRuled l date (Collect p) r l'
 collect_ruled l date r l' mandate collection p e q d =
-    done_same _ _ l _ _ r l' (collect_answer_lem l date p mandate collection (sym e) q) (collect_effect_lem l date p mandate collection (sym e)) d
+    done_same (Slid (slid p.requested)) _ _ l _ _ r l' (collect_answer_lem l date p mandate collection (sym e) q) (collect_effect_lem l date p mandate collection (sym e)) d

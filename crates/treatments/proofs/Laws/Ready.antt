@@ -47,8 +47,10 @@ use Rattle.model.specs.Lookups.{collection_of}
 use Rattle.model.specs.Checks.{is_settled, settled_on, state_fits, time_treated, ruled}
 use Rattle.model.specs.Deadlines.{in_time, days_since}
 use Rattle.model.specs.Effects.{treated, undone, effect}
-use Rattle.checking.specs.Calls.{used_row, found_row, Done}
-use Rattle.checking.proofs.Laws.Calls.{done_same, judged_passes}
+use Rattle.checking.specs.Calls.{used_row, found_row}
+use Rattle.model.specs.declared.HandedOn.{HandedOn}
+use Rattle.model.specs.declared.HandedOn.TheVariants.{Nothing}
+use Rattle.checking.proofs.Laws.Calls.{AsRuled, done_same, judged_passes}
 use Rattle.treatments.specs.declared.verdicts.Verdict.{Verdict}
 use Rattle.treatments.specs.Treatments.{treat_checks, treat_judged, refund_for, refund_after, undone_of, go_verdict, by_answer, held, postable, answer_for, effect_for, Treated}
 use Rattle.refusals.specs.declared.Refusal.{Refusal}
@@ -241,13 +243,13 @@ module _ (l : Ledger) (date number : ℕ) (t : Treatment) (f : fit l ≡ true) (
       goes l date number row e f (leb-true l.latest date (passed 0)) t a (passed 3) (passed 5)
 
   pub treat_ruled :
-      (r : Result Unit Refusal) (l' : Ledger) (found : Option ℕ) → found ≡ lookup l.collections l.collections_used number
-      → Treated found l date t r l' → Done (ruled l date (Treat number t)) l (effect l date (Treat number t)) r l'
+      (r : Result HandedOn Refusal) (l' : Ledger) (found : Option ℕ) → found ≡ lookup l.collections l.collections_used number
+      → Treated found l date t r l' → AsRuled l date (Treat number t) r l'
   treat_ruled r l' found e d =
       let k = collection_at l.collections (found_row found) in
       let j = treat_judged l.latest date t (used_row l.collections l.collections_used found) k in
       let v = go_verdict t date k in
       let same = answer_by j v l (λ q. (by_found found (sym e) q).accepted) in
-      done_same _ _ l _ _ r l' (same ∙ treat_answer l date number t found (sym e))
+      done_same Nothing _ _ l _ _ r l' (same ∙ treat_answer l date number t found (sym e))
       (λ q. let w = sym same ∙ q in effect_by j v (found_row found) date l w ∙ (by_found found (sym e) w).makes)
       d

@@ -27,6 +27,8 @@ use Rattle.tables.specs.Ledger.{Ledger, ledger, ledger_in}
 use Rattle.tables.specs.Rows.{put_collection}
 use Rattle.model.specs.declared.Treatment.{Treatment}
 use Rattle.checking.specs.Calls.{found_row}
+use Rattle.model.specs.declared.HandedOn.{HandedOn}
+use Rattle.model.specs.declared.HandedOn.TheVariants.{Nothing}
 use Rattle.checking.proofs.Laws.Calls.{done_same, done_beside}
 use Rattle.treatments.specs.Treatments.{held, postable, header_after, pay_effect, answer_for, effect_for, verdict_on, verdict_at, Treated}
 
@@ -175,7 +177,7 @@ module _ (m c : List ℕ) (l : Ledger) where
   effect_beside (Ok (Post k p)) row date = refl
 
 pub treated_beside :
-    (a b : BookMut) (found : Option ℕ) (date : ℕ) (t : Treatment) (r : Result Unit Refusal) → Treated found (ledger_in a) date t r (ledger_in b)
+    (a b : BookMut) (found : Option ℕ) (date : ℕ) (t : Treatment) (r : Result HandedOn Refusal) → Treated found (ledger_in a) date t r (ledger_in b)
     → (m c : List ℕ)
     → Treated found (ledger a.header m a.collections.now c a.creditor_positions.now a.debtor_positions.now a.bank_positions.now) date t r
     (ledger b.header m b.collections.now c b.creditor_positions.now b.debtor_positions.now b.bank_positions.now)
@@ -183,5 +185,5 @@ unfolding with_records
 treated_beside a b found date t r d m c =
     let l = ledger_in a in
     let v = verdict_at found l date t in
-    done_same _ _ _ _ _ r _ (answer_beside m c l v) (λ _. effect_beside m c l v (found_row found) date)
+    done_same Nothing _ _ _ _ _ r _ (answer_beside m c l v) (λ _. effect_beside m c l v (found_row found) date)
     (done_beside (with_records m c) _ l _ r (ledger_in b) d)
