@@ -12,6 +12,7 @@ ghost use Rattle.replay.specs.Replay.{events_in, Replayed};
 use book::acting::act_from;
 use events::limits::check;
 use events::{Event, FIELDS};
+use model::HandedOn;
 use opening::open_ledger;
 use refusals::Refusal;
 use tables::BookMut;
@@ -36,7 +37,7 @@ fn open(book: &mut BookMut) -> Result<(), Refusal>
 }
 
 // Any event, given to lent memory that is known to be fit.
-fn take_fit(book: &mut BookMut, e: Event) -> Result<(), Refusal>
+fn take_fit(book: &mut BookMut, e: Event) -> Result<HandedOn, Refusal>
     requires { fit (ledger_in book.old) ≡ true }
     ensures loans { SameLoans book.old book.new }
     ensures taken { Taken (ledger_in book.old) e result (ledger_in book.new) }

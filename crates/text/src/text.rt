@@ -15,6 +15,7 @@ use events::Event;
 use fitness::fitness::is_fit;
 use index::Index;
 use lines::line::{COLUMNS, read};
+use model::HandedOn;
 use refusals::{Refusal, answer_number};
 use report::cut::line_end;
 use report::layout::{ANSWER, LAST_NUMBER, Progress, answer_line};
@@ -71,7 +72,7 @@ impl KnownBook<'_, '_, '_> {
     }
 
     // An event within its limits. What it names is looked for from where the indexes say.
-    fn take_sound(&mut self, e: Event) -> Result<(), Refusal>
+    fn take_sound(&mut self, e: Event) -> Result<HandedOn, Refusal>
         requires { checked e ≡ (Ok tt) }
         ensures book { self.new.book.ghost_name ≡ self.old.book.ghost_name }
         ensures loans { SameLoans self.old.book.now self.new.book.now }
@@ -86,15 +87,16 @@ impl KnownBook<'_, '_, '_> {
         act_from(self.book, e, mandates, collections)
     }
 
-    // A line: what the reader refuses, or what the ledger answers.
-    #[tactic(auto, using(lines::proofs::Laws::Promises::only_within_is_taken))]
+    // A line: what the reader refuses, or what the ledger answers. What it hands on is not written.
+    #[tactic(auto, using(lines::proofs::Laws::Promises::only_within_is_taken, model::proofs::Laws::Handed::outcome_accepted))]
     fn take_line(&mut self, line: &[u8]) -> Result<(), Refusal>
         ensures book { self.new.book.ghost_name ≡ self.old.book.ghost_name }
         ensures loans { SameLoans self.old.book.now self.new.book.now }
         ensures taken { LineTaken (ledger_in self.old.book.now) line.now result (ledger_in self.new.book.now) }
     {
         let e = read(line)?;
-        self.take_sound(e)
+        self.take_sound(e)?;
+        Ok(())
     }
 
     // Answers a line that has ended, unless 999,999 were answered before.

@@ -1,5 +1,5 @@
--- What an answer hands on. To cite: `kept_both`, `verdict_go`, `verdict_refuse`, `verdict_number`, `event_values`, `collect_hands_on`.
--- Assumes nothing.
+-- What an answer hands on. To cite: `verdict_go`, `verdict_refuse`, `verdict_number`, `outcome_accepted`, `outcome_refused`, `kept_both`,
+-- `event_values`, `collect_hands_on`. Assumes nothing.
 use Rattle.std.specs.Option.{unwrap_or}
 use Rattle.std.proofs.Common.{Err, None, Ok, Option, Result, Some, ℕ}
 use mathlib.Core.Path.{◌≡◌, refl, sym, ap, subst, ◌∙◌}
@@ -47,6 +47,16 @@ verdict_refuse (Err x) p r e = cc
 pub verdict_number : {A : Type 0} (a : Result Unit Refusal) (p : A) → answer_number (verdict_by a p) ≡ answer_number a
 verdict_number (Ok tt) p = refl
 verdict_number (Err r) p = refl
+
+-- what an outcome says of the answer
+module _ (l : Ledger) (e : Event) where
+  pub outcome_accepted : (h : HandedOn) → outcome l e ≡ Ok h → answer l e ≡ (Ok tt)
+  unfolding outcome
+  outcome_accepted h q = (verdict_go (answer l e) (handed_on (action_of e)) h q).0
+
+  pub outcome_refused : (r : Refusal) → outcome l e ≡ Err r → answer l e ≡ Err r
+  unfolding outcome
+  outcome_refused r q = verdict_refuse (answer l e) (handed_on (action_of e)) r q
 
 -- ---- the kept due and the days to it are of one answer of the calendar
 

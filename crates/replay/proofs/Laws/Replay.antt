@@ -16,6 +16,7 @@ use Rattle.events.specs.declared.Event.{Event}
 use Rattle.events.specs.Fields.{event_of}
 use Rattle.tables.specs.Ledger.{Ledger}
 use Rattle.opening.specs.Opening.{open_result, opening}
+use Rattle.model.specs.declared.HandedOn.{HandedOn}
 use Rattle.model.specs.Step.{after, run}
 use Rattle.model.specs.Bounds.{Safe}
 use Rattle.model.proofs.Laws.Batch.{after_safe, run_both}
@@ -47,7 +48,7 @@ pub running_start : (events : List ℕ) (l : Ledger) → Safe l → Running even
 unfolding events_to run
 running_start events l s = record { safe = s; is = refl }
 
-pub running_step : (events : List ℕ) (l₀ l l' : Ledger) (i : ℕ) (e : Event) (r : Result Unit Refusal) → Running events l₀ l i → e ≡ event_at events i → Taken l e r l' → Running events l₀ l' (i + 1)
+pub running_step : (events : List ℕ) (l₀ l l' : Ledger) (i : ℕ) (e : Event) (r : Result HandedOn Refusal) → Running events l₀ l i → e ≡ event_at events i → Taken l e r l' → Running events l₀ l' (i + 1)
 unfolding events_to run
 running_step events l₀ l l' i e r h q t =
     record {

@@ -1,5 +1,5 @@
 -- Laws of specs/Text, for the functions of src/text.rt in their order. To cite: `mandates_from`, `collections_from`, `taken_by_index`,
--- `known_kept`; `output_line`; `AnsweredTo` with `answered_start`, `answered_line`, `answered_end`. Assumes nothing.
+-- `known_kept`; `line_refused`, `output_line`; `AnsweredTo` with `answered_start`, `answered_line`, `answered_end`. Assumes nothing.
 use Rattle.std.specs.List.{copy_within}
 use Rattle.std.proofs.Common.{Err, Ok, Option, Some, None, IfSome, Result}
 use mathlib.Core.Path.{◌≡◌, refl, sym, ap, ◌∙◌}
@@ -25,6 +25,8 @@ use Rattle.book.proofs.Laws.Events.{taken_from}
 use Rattle.digits.specs.Field.{pasted}
 use Rattle.lines.specs.Line.{line_end, read_line}
 use Rattle.tables.specs.Ledger.{Ledger}
+use Rattle.model.specs.declared.HandedOn.{HandedOn}
+use Rattle.model.proofs.Laws.Handed.{outcome_refused}
 use Rattle.model.specs.Step.{answer_number, after}
 use Rattle.index.proofs.Laws.Following.{indexed_kept, index_holds}
 use Rattle.index.specs.declared.Index.{Index}
@@ -67,7 +69,7 @@ module _ (safe : Bool) (mandates collections : Index) (l : Ledger) (k : ∥ Know
 
   -- an event acted on from the rows that the indexes have for what it names; l' is the ledger as its cells were lent
   pub taken_by_index :
-      (l' : Ledger) (e : Event) (mandate collection : Option ℕ) (i j : ℕ) (r : Result Unit Refusal) (l'' : Ledger)
+      (l' : Ledger) (e : Event) (mandate collection : Option ℕ) (i j : ℕ) (r : Result HandedOn Refusal) (l'' : Ledger)
       → l' ≡ l → fit l ≡ true → checked e ≡ (Ok tt)
       → mandate ≡ named_mandate e → IfSome mandate (λ n. i ≡ first_row mandates l'.mandates n)
       → collection ≡ named_collection e → IfSome collection (λ n. j ≡ first_row collections l'.collections n)
@@ -87,6 +89,17 @@ module _ (safe : Bool) (mandates collections : Index) (l : Ledger) (k : ∥ Know
         mandates = indexed_kept mandates l.mandates _ l.mandates_used _ w.mandates (mandates_grown l e);
         collections = indexed_kept collections l.collections _ l.collections_used _ w.collections (collections_grown l e);
       }) ∣₁)
+
+-- ---- a line
+
+-- an event that is refused: so is its line
+pub line_refused :
+    (l : Ledger) (line : List ℕ) (e : Event) (r : Result HandedOn Refusal) (x : Refusal) (l' : Ledger)
+    → read_line line ≡ Ok e → Taken l e r l' → r ≡ Err x → LineTaken l line (Err x) l'
+line_refused l line e r x l' s t q = record {
+  answer_is = rw s (sym (outcome_refused l e x (sym t.outcome_is ∙ q)));
+  after_is = rw s t.after_is;
+}
 
 -- ---- a line that has ended
 
