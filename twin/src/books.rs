@@ -163,7 +163,7 @@ impl Books {
             _ => code == 1 || code == 2,
         };
         let requested = day_in_range(requested)?;
-        let kept_due = self.calendar.kept_due(requested);
+        let (kept_due, _) = self.calendar.kept_due(requested);
         let in_time = day <= self.calendar.business_day_before(kept_due);
         holds(code_taken && in_time && requested <= day + 14)?;
         holds(kept_due <= lapse_limit(row.counted_from))?;

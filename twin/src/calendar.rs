@@ -3,13 +3,16 @@
 /// A day, counted from 1 March of the year 0, a Wednesday.
 pub type Day = i32;
 
+/// A count of calendar days.
+pub type Days = i32;
+
 /// The first and last date of events and rows.
 pub const FIRST_DATE: i64 = 20100101;
 pub const LAST_DATE: i64 = 21891231;
 
 /// Last days and kept dues are worked out in these years.
-const FIRST_YEAR: i32 = 2009;
-const LAST_YEAR: i32 = 2193;
+pub const FIRST_YEAR: i32 = 2009;
+pub const LAST_YEAR: i32 = 2193;
 
 /// The day of a date written YYYYMMDD, if it is a real day in range.
 pub fn day_in_range(date: i64) -> Option<Day> {
@@ -139,9 +142,16 @@ impl Calendar {
         self.business_days[self.count_up_to(day) + n - 1]
     }
 
-    /// The first business day on or after the requested date.
-    pub fn kept_due(&self, requested: Day) -> Day {
-        self.business_days_after(1, requested - 1)
+    /// The first business day on or after the day.
+    pub fn business_day_from(&self, day: Day) -> Day {
+        self.business_days_after(1, day - 1)
+    }
+
+    /// The kept due, which is the first business day on or after the requested
+    /// date, and the days that it slid: how much later it is.
+    pub fn kept_due(&self, requested: Day) -> (Day, Days) {
+        let kept_due = self.business_day_from(requested);
+        (kept_due, kept_due - requested)
     }
 
     /// The last business day strictly before the day.

@@ -534,7 +534,7 @@ impl Generator {
             self.books.calendar.business_day_before(next_month).max(due)
         } else {
             let late = due + self.random.below(30) as Day;
-            self.books.calendar.kept_due(late)
+            self.books.calendar.business_day_from(late)
         }
     }
 
@@ -608,7 +608,7 @@ impl Generator {
             17 => calendar.business_days_after(1, settled),
             _ => {
                 let day = self.random.between(settled.into(), last.into()) as Day;
-                self.books.calendar.kept_due(day)
+                self.books.calendar.business_day_from(day)
             }
         }
     }

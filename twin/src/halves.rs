@@ -172,7 +172,7 @@ impl Halves {
         let away = self.random.between(1, most) as Day;
         match side {
             Side::Before => self.business_day_until(TURN - away),
-            Side::Across | Side::After => self.books.calendar.kept_due(TURN + away),
+            Side::Across | Side::After => self.books.calendar.business_day_from(TURN + away),
         }
     }
 
@@ -219,7 +219,7 @@ impl Halves {
             _ => {
                 let place = self.random.below(self.rows.len() as u64) as usize;
                 let later = self.rows[place].refunded + self.random.below(5) as Day;
-                (self.books.calendar.kept_due(later), place)
+                (self.books.calendar.business_day_from(later), place)
             }
         }
     }

@@ -1,7 +1,7 @@
-//! The text line, the events and their rules, from document 01 and request (b)
-//! of document 02.
+//! The text line, the events and their rules, from document 01 and requests (b)
+//! and (e) of document 02.
 
-use crate::calendar::{day_in_range, day_number, lapse_limit, Calendar, Day};
+use crate::calendar::{day_in_range, day_number, lapse_limit, Calendar, Day, Days};
 use crate::rows::Table;
 use std::io::{self, BufRead, ErrorKind, Write};
 
@@ -39,11 +39,15 @@ const WRONG_STATE: u8 = 15;
 const BEFORE_DUE: u8 = 16;
 const AFTER_LAST_DAY: u8 = 17;
 
-/// Accepted, or the refusal number.
-type Answer = Result<(), u8>;
+/// Accepted, with the days that the kept due of a collect slid, 0 for any other
+/// event; or the refusal number.
+pub type Answer = Result<Days, u8>;
+
+/// Nothing against it, or the refusal number.
+type Check = Result<(), u8>;
 
 /// Refuses with the number unless the condition holds.
-fn require(condition: bool, refusal: u8) -> Answer {
+fn require(condition: bool, refusal: u8) -> Check {
     if condition {
         Ok(())
     } else {
@@ -246,7 +250,7 @@ fn within_limits(day: Day, fields: &Fields) -> Result<Event, u8> {
     }
 }
 
-fn unnamed<const N: usize>(fields: [i64; N]) -> Answer {
+fn unnamed<const N: usize>(fields: [i64; N]) -> Check {
     require(fields.iter().all(|&field| field == 0), OUTSIDE_LIMITS)
 }
 
@@ -354,14 +358,14 @@ impl Ledger {
         let fields = read_line(line).ok_or(NOT_A_LINE)?;
         let (day, event) = read_event(&fields)?;
         require(self.latest <= Some(day), BEFORE_LATEST)?;
-        self.take_event(day, event)?;
+        let days_slid = self.take_event(day, event)?;
         self.latest = Some(day);
-        Ok(())
+        Ok(days_slid)
     }
 
     fn take_event(&mut self, day: Day, event: Event) -> Answer {
         match event {
-            Event::Creditor { creditor, bank } => self.add_creditor(creditor, bank),
+            Event::Creditor { creditor, bank } => self.add_creditor(creditor, bank)?,
             Event::Mandate {
                 mandate,
                 creditor,
@@ -380,7 +384,7 @@ impl Ledger {
                     first_due: !one_off,
                     last_presented: None,
                 };
-                self.add_mandate(mandate, row)
+                self.add_mandate(mandate, row)?;
             }
             Event::AmendBank {
                 mandate,
@@ -389,40 +393,37 @@ impl Ledger {
                 let mandate = self.live_mandate(mandate)?;
                 mandate.debtor_bank = debtor_bank;
                 mandate.first_due = !mandate.one_off;
-                Ok(())
             }
             Event::AmendCreditor { mandate, creditor } => {
                 require(self.creditor_banks[creditor].is_some(), MISSING)?;
                 self.live_mandate(mandate)?.creditor = creditor;
-                Ok(())
             }
             Event::Cancel { mandate } => {
                 self.live_mandate(mandate)?.live = false;
-                Ok(())
             }
-            Event::Collect(collect) => self.collect(day, &collect),
-            Event::Settle { collection } => self.settle(day, collection),
+            Event::Collect(collect) => return self.collect(day, &collect),
+            Event::Settle { collection } => self.settle(day, collection)?,
             Event::Reject { collection } => {
                 let collection = self.collections.get(collection).ok_or(MISSING)?;
                 require(collection.state == State::Presented, WRONG_STATE)?;
                 collection.state = State::Rejected;
-                Ok(())
             }
             Event::Undo {
                 collection,
                 undoing,
-            } => self.undo(day, collection, undoing),
+            } => self.undo(day, collection, undoing)?,
         }
+        Ok(0)
     }
 
-    fn add_creditor(&mut self, creditor: usize, bank: usize) -> Answer {
+    fn add_creditor(&mut self, creditor: usize, bank: usize) -> Check {
         let place = &mut self.creditor_banks[creditor];
         require(place.is_none(), EXISTS)?;
         *place = Some(bank);
         Ok(())
     }
 
-    fn add_mandate(&mut self, mandate: u32, row: Mandate) -> Answer {
+    fn add_mandate(&mut self, mandate: u32, row: Mandate) -> Check {
         require(!self.mandates.has(mandate), EXISTS)?;
         require(self.creditor_banks[row.creditor].is_some(), MISSING)?;
         require(!self.mandates.is_full(), NO_ROW)?;
@@ -443,7 +444,7 @@ impl Ledger {
         let mandate = *self.live_mandate(collect.mandate)?;
         require(takes(&mandate, collect.sequence), WRONG_SEQUENCE)?;
 
-        let kept_due = self.calendar.kept_due(collect.requested);
+        let (kept_due, days_slid) = self.calendar.kept_due(collect.requested);
         let latest_event = self.calendar.business_day_before(kept_due);
         let lead_allowed = collect.requested - day <= 14 && day <= latest_event;
         require(lead_allowed, WRONG_LEAD)?;
@@ -469,10 +470,10 @@ impl Ledger {
             Sequence::Rcur => {}
             Sequence::Fnal | Sequence::Ooff => mandate.live = false,
         }
-        Ok(())
+        Ok(days_slid)
     }
 
-    fn settle(&mut self, day: Day, collection: u32) -> Answer {
+    fn settle(&mut self, day: Day, collection: u32) -> Check {
         require(self.calendar.is_business_day(day), CLOSED_DAY)?;
         let collection = self.collections.get(collection).ok_or(MISSING)?;
         require(collection.state == State::Presented, WRONG_STATE)?;
@@ -487,7 +488,7 @@ impl Ledger {
         Ok(())
     }
 
-    fn undo(&mut self, day: Day, collection: u32, undoing: Undoing) -> Answer {
+    fn undo(&mut self, day: Day, collection: u32, undoing: Undoing) -> Check {
         require(self.calendar.is_business_day(day), CLOSED_DAY)?;
         let collection = self.collections.get(collection).ok_or(MISSING)?;
         let State::Settled(settled) = collection.state else {

@@ -39,7 +39,7 @@ impl Lookups {
         let mandates = numbers(MANDATE_ROWS, 1, &mut random);
         let collections = numbers(COLLECTION_ROWS, 0, &mut random);
         let mut lookups = Lookups {
-            today: books.calendar.kept_due(day),
+            today: books.calendar.business_day_from(day),
             random,
             books,
             ready: VecDeque::new(),

@@ -211,7 +211,7 @@ impl Seasons {
     /// After the last business day before the kept due.
     fn short_lead(&mut self) -> (Day, Day) {
         let requested = self.near_closed_day();
-        let kept_due = self.books.calendar.kept_due(requested);
+        let (kept_due, _) = self.books.calendar.kept_due(requested);
         let latest = self.books.calendar.business_day_before(kept_due);
         let day = latest + self.random.between(1, 3) as Day;
         (day.max(self.today), requested)
@@ -303,7 +303,7 @@ impl Seasons {
 
     fn is_taken(&self, mandate: usize, day: Day, requested: Day) -> bool {
         let calendar = &self.books.calendar;
-        let kept_due = calendar.kept_due(requested);
+        let (kept_due, _) = calendar.kept_due(requested);
         let limit = lapse_limit(self.books.mandates[mandate].counted_from);
         requested <= day + 14 && day <= calendar.business_day_before(kept_due) && kept_due <= limit
     }

@@ -1,7 +1,11 @@
 use crate::calendar::{civil, day_in_range, day_number, easter, lapse_limit, months_after};
-use crate::calendar::{Calendar, Day};
-use crate::ledger::{compensation, Ledger};
+use crate::calendar::{Calendar, Day, Days, FIRST_YEAR, LAST_YEAR};
+use crate::ledger::{compensation, Answer, Ledger};
 use crate::{run, COLLECTION_ROWS, MANDATE_ROWS};
+
+/// Remainders of day numbers by 7.
+const THURSDAY: Day = 1;
+const MONDAY: Day = 5;
 
 const EXAMPLE: &str = include_str!("../cases/example.txt");
 
@@ -34,17 +38,20 @@ fn line(event: &[i64; 9]) -> String {
     format!("{kind:2}{date:9}{mandate:10}{a:10}{b:10}{c:10}{amount:12}{second:9}{code:2}")
 }
 
-fn answers(events: &[[i64; 9]]) -> Vec<u8> {
+/// What the ledger hands on for each event: the days slid, or the refusal number.
+fn handed_on(events: &[[i64; 9]]) -> Vec<Answer> {
     let mut ledger = Ledger::new(MANDATE_ROWS, COLLECTION_ROWS);
-    let answer = |event| {
-        let line = line(event);
-        ledger.take_line(line.as_bytes()).err().unwrap_or(0)
-    };
-    events.iter().map(answer).collect()
+    let take = |event| ledger.take_line(line(event).as_bytes());
+    events.iter().map(take).collect()
+}
+
+fn answers(events: &[[i64; 9]]) -> Vec<u8> {
+    let answer = |taken: &Answer| taken.err().unwrap_or(0);
+    handed_on(events).iter().map(answer).collect()
 }
 
 /// Compensation in a refund of the date, so many days after the settled day.
-fn cents(date: i64, amount: i64, rate: i64, days: Day) -> i64 {
+fn cents(date: i64, amount: i64, rate: i64, days: Days) -> i64 {
     compensation(amount, rate, day(date) - days, day(date))
 }
 
@@ -79,7 +86,7 @@ fn collect_after_20240402(requested: i64) -> u8 {
 fn thirteen_dates_and_cents() {
     let calendar = Calendar::new();
     assert_eq!(easter(2024), day(20240331));
-    assert_eq!(calendar.kept_due(day(20240329)), day(20240402));
+    assert_eq!(calendar.kept_due(day(20240329)), (day(20240402), 4));
     assert_eq!(undo_after_20240402(8, 20240409, 0), 0);
     assert_eq!(undo_after_20240402(8, 20240410, 0), 17);
     assert_eq!(undo_after_20240402(9, 20240530, 0), 0);
@@ -160,6 +167,136 @@ fn days_follow_each_other() {
         }
     }
     assert_eq!(expected - day(20100101), 65_744);
+}
+
+#[test]
+fn kept_dues_and_days_slid() {
+    let calendar = Calendar::new();
+    let cases = [
+        // Good Friday, a Christmas on a Thursday, a Saturday before Christmas.
+        (20240329, 20240402, 4),
+        (20251225, 20251229, 4),
+        (20231223, 20231227, 4),
+        (20251226, 20251229, 3),
+        (20240406, 20240408, 2),
+        (20240407, 20240408, 1),
+        (20240405, 20240405, 0),
+        (20891225, 20891227, 2),
+        (20100101, 20100104, 3),
+        (21891231, 21891231, 0),
+    ];
+    for (requested, kept_due, days_slid) in cases {
+        let expected = (day(kept_due), days_slid);
+        assert_eq!(calendar.kept_due(day(requested)), expected, "{requested}");
+    }
+}
+
+/// Of the years 2000 to 2199 the twin's calendar answers for those from 2009 to 2193, but
+/// for their first day, which has no day before it there.
+#[test]
+fn every_date_slides_by_0_to_4_days() {
+    let calendar = Calendar::new();
+    let mut dates = 0;
+    for requested in day_number(FIRST_YEAR, 1, 2)..=day_number(LAST_YEAR, 12, 31) {
+        let date = civil(requested);
+        let (kept_due, days_slid) = calendar.kept_due(requested);
+        assert!(calendar.is_business_day(kept_due), "{date:?}");
+        assert_eq!(kept_due, requested + days_slid, "{date:?}");
+        assert!((0..=4).contains(&days_slid), "{date:?}");
+        let is_open = calendar.is_business_day(requested);
+        assert_eq!(days_slid == 0, is_open, "{date:?}");
+        dates += 1;
+    }
+    assert_eq!(dates, 67_569);
+}
+
+/// On each Good Friday, on Christmas where it is a Thursday, on the Saturday before it where it
+/// is a Monday, and on no other date.
+#[test]
+fn dates_that_slide_by_4_days() {
+    let calendar = Calendar::new();
+    for year in FIRST_YEAR..=LAST_YEAR {
+        let christmas = day_number(year, 12, 25);
+        let mut expected = vec![computus(year) - 2];
+        match christmas % 7 {
+            MONDAY => expected.push(christmas - 2),
+            THURSDAY => expected.push(christmas),
+            _ => {}
+        }
+        let dates = day_number(year, 1, 2)..=day_number(year, 12, 31);
+        let slid_by_4: Vec<Day> = dates
+            .filter(|&requested| calendar.kept_due(requested).1 == 4)
+            .collect();
+        assert_eq!(slid_by_4, expected, "{year}");
+    }
+}
+
+#[test]
+fn an_accepted_collect_hands_on_its_days_slid() {
+    let events = [
+        [1, 20240325, 0, 1, 1, 0, 0, 0, 0],
+        [2, 20240325, 7, 1, 5, 2, 0, 20240325, 0],
+        [5, 20240325, 7, 70, 0, 0, 10000, 20240328, 0],
+        [5, 20240325, 7, 71, 0, 0, 10000, 20240401, 1],
+        [5, 20240325, 7, 72, 0, 0, 10000, 20240331, 1],
+        [5, 20240325, 7, 73, 0, 0, 10000, 20240330, 1],
+        [5, 20240325, 7, 74, 0, 0, 10000, 20240329, 2],
+    ];
+    assert_eq!(handed_on(&events), [0, 0, 0, 1, 2, 3, 4].map(Ok));
+}
+
+/// Each collect asks for Good Friday; what refuses it comes before and after its kept due.
+#[test]
+fn a_refused_collect_hands_on_no_days() {
+    let events = [
+        [1, 20240301, 0, 1, 1, 0, 0, 0, 0],
+        [2, 20240301, 7, 1, 5, 2, 0, 20210401, 0],
+        [5, 20240314, 7, 70, 0, 0, 10000, 20240329, 0],
+        [5, 20240315, 7, 70, 0, 0, 10000, 20240329, 0],
+        [2, 20240315, 8, 1, 5, 2, 0, 20240315, 0],
+        [5, 20240315, 8, 70, 0, 0, 10000, 20240329, 1],
+        [5, 20240315, 8, 70, 0, 0, 0, 20240329, 0],
+        [5, 20240315, 9, 70, 0, 0, 10000, 20240329, 0],
+        [5, 20240315, 8, 70, 0, 0, 10000, 20240329, 0],
+        [5, 20240315, 8, 70, 0, 0, 10000, 20240329, 1],
+    ];
+    let expected = [
+        Ok(0),
+        Ok(0),
+        Err(13),
+        Err(14),
+        Ok(0),
+        Err(12),
+        Err(5),
+        Err(9),
+        Ok(4),
+        Err(8),
+    ];
+    assert_eq!(handed_on(&events), expected);
+}
+
+#[test]
+fn other_events_hand_on_0_days() {
+    let events = [
+        [1, 20240325, 0, 1, 1, 0, 0, 0, 0],
+        [2, 20240325, 7, 1, 5, 2, 0, 20240325, 0],
+        [3, 20240325, 7, 0, 0, 3, 0, 0, 0],
+        [3, 20240325, 7, 1, 0, 0, 0, 0, 1],
+        [5, 20240325, 7, 70, 0, 0, 10000, 20240329, 0],
+        [5, 20240325, 7, 71, 0, 0, 10000, 20240329, 1],
+        [5, 20240325, 7, 72, 0, 0, 10000, 20240329, 1],
+        [5, 20240325, 7, 73, 0, 0, 10000, 20240329, 1],
+        [4, 20240329, 7, 0, 0, 0, 0, 0, 0],
+        [7, 20240329, 0, 70, 0, 0, 0, 0, 0],
+        [6, 20240402, 0, 71, 0, 0, 0, 0, 0],
+        [6, 20240402, 0, 72, 0, 0, 0, 0, 0],
+        [6, 20240402, 0, 73, 0, 0, 0, 0, 0],
+        [8, 20240403, 0, 71, 0, 0, 0, 0, 0],
+        [9, 20240403, 0, 72, 360, 0, 0, 0, 1],
+        [10, 20240403, 0, 73, 0, 0, 0, 0, 0],
+    ];
+    let expected = [0, 0, 0, 0, 4, 4, 4, 4, 0, 0, 0, 0, 0, 0, 0, 0];
+    assert_eq!(handed_on(&events), expected.map(Ok));
 }
 
 #[test]
