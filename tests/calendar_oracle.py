@@ -30,12 +30,23 @@ for y in range(2000, 2201):
     CLOSED |= {date(y, 1, 1), e - 2 * DAY, e + DAY, date(y, 5, 1), date(y, 12, 25), date(y, 12, 26)}
 
 
+def days(first, last):
+    while first <= last:
+        yield first
+        first += DAY
+
+
 def business(d):
     return d.isoweekday() <= 5 and d not in CLOSED
 
 
 def kept(d):
     return d if business(d) else kept(d + DAY)
+
+
+def slid(d):
+    """The calendar days from the date to its kept date."""
+    return (kept(d) - d).days
 
 
 def before(d):
@@ -77,6 +88,7 @@ def answers(d):
     return [
         int(business(d)),
         number(kept(d)),
+        slid(d),
         number(before(d)),
         number(period(d, 0, 0, 5)),
         number(period(d, 0, 56, 2)),
@@ -100,16 +112,17 @@ def expected():
     lines = []
     for x in (int(v) for v in re.findall(r"\b(\d{8}),", table)):
         d = parsed(x)
-        row = answers(d) if d is not None and FIRST <= d <= LAST else [0] * 9
+        row = answers(d) if d is not None and FIRST <= d <= LAST else [0] * 10
         lines.append([x] + row)
     for y in range(2000, 2200):
-        h, d = 0, date(y, 1, 1)
-        while d.year == y:
+        h, most = 0, 0
+        for d in days(date(y, 1, 1), date(y, 12, 31)):
             for v in answers(d):
                 h = (h * 31 + v) % 1000000007
-            d += DAY
-        lines.append([y, number(easter(y)), h])
+            most = max(most, slid(d))
+        lines.append([y, number(easter(y)), h, most])
     return "".join(" ".join(map(str, row)) + " \n" for row in lines)
 
 
-sys.stdout.write(expected())
+if __name__ == "__main__":
+    sys.stdout.write(expected())
