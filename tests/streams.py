@@ -18,17 +18,16 @@ import tempfile
 import time
 from pathlib import Path
 
+from runs import CHECKS, LINES, SECONDS, agree, check, come_late, cut, differs, ended, failed, failing, feed, in_pieces
+from runs import make_checks, opened, pause, start
+
 TOP = Path(__file__).resolve().parent.parent
 EXAMPLE = (TOP / "crates/ledger/stdin").read_bytes()
 ANSWERS = (TOP / "crates/ledger/stdout").read_bytes()
-LINES = 999_999
 PIECE = 262_144
 STACK = 3100 * 1024  # the README's
-SECONDS = 60  # for each check
 WIDTHS = 2, 9, 10, 10, 10, 10, 12, 9, 2
 PAST = b"ledger: lines past 999999 were not read\n"
-CHECKS = {}
-STARTED = []
 
 
 # ---- inputs
@@ -86,70 +85,24 @@ STREAMS = {
 
 # ---- runs
 
-def opened(data):
-    """A file of these bytes. A file is read in whole pieces, a pipe in whatever has come."""
-    file = tempfile.TemporaryFile()
-    file.write(data)
-    file.seek(0)
-    return file
-
-
-def start(stdin=subprocess.PIPE, stdout=subprocess.PIPE, before=None, env=None):
-    """The ledger, with something to be done in its process before it begins."""
-    run = subprocess.Popen([sys.argv[1]], stdin=stdin, stdout=stdout, stderr=subprocess.PIPE, preexec_fn=before, env=env)
-    STARTED.append(run)
-    return run
-
-
 @functools.lru_cache(maxsize=2)
 def expected(data):
     """What the twin writes."""
     return subprocess.run([sys.argv[2]], input=data, capture_output=True, check=True).stdout
 
 
-def ended(run, data=None, file=None):
-    """The exit status and what was written, to a file where there is one."""
-    out, err = run.communicate(data)
-    if file is not None:
-        file.seek(0)
-        out = file.read()
-    return run.returncode, out, err
-
-
-def differs(seen, out, err=b"", status=0):
-    """In words what is not as it has to be; nothing where all is."""
-    words = [] if seen[0] == status else [f"exit status {seen[0]}, not {status}"]
-    if seen[1] != out:
-        words.append(f"{len(seen[1])} bytes on standard output are not the {len(out)} bytes that they have to be")
-    if seen[2] != err:
-        words.append(f"{seen[2][:200]} on standard error, not {err}")
-    return ", ".join(words)
-
-
-def failed(stream, number):
-    return f"ledger: standard {stream}: {os.strerror(number)}\n".encode()
-
-
 def whole(*arguments, data=b""):
     return subprocess.run([TOP / "tests/whole", *arguments], input=data, check=False).returncode == 0
 
 
-def check(name):
-    def noted(function):
-        CHECKS[name] = function
-        return function
-    return noted
-
-
 # ---- inputs that come to their end
 
-def agree(data, past):
-    by_pipe = differs(ended(start(), data), expected(data), PAST if past else b"")
-    return by_pipe or differs(ended(start(opened(data))), expected(data), PAST if past else b"")
+def agrees(data, past):
+    return agree(data, expected(data), PAST if past else b"")
 
 
 for title, stream in STREAMS.items():
-    CHECKS[title] = functools.partial(agree, *stream)
+    CHECKS[title] = functools.partial(agrees, *stream)
 
 
 @check("lines across the end of a piece")
@@ -159,39 +112,14 @@ def across_pieces():
     return next(filter(None, (differs(ended(start(opened(data))), expected(data)) for data in inputs)), "")
 
 
-def cut(data, size):
-    return [data[at : at + size] for at in range(0, len(data), size)]
-
-
-def feed(write, pieces, rest):
-    """Writes the pieces, each with a rest behind it, for as long as somebody reads them."""
-    try:
-        for piece in pieces:
-            write(piece)
-            rest()
-    except BrokenPipeError:
-        pass
-
-
-def pause(seconds):
-    return functools.partial(time.sleep, seconds)
-
-
 @check("byte by byte")
 def byte_by_byte():
-    run = start()
-    feed(functools.partial(os.write, run.stdin.fileno()), cut(EXAMPLE, 1), pause(0.0005))
-    return differs(ended(run), ANSWERS)
+    return differs(in_pieces(cut(EXAMPLE, 1), 0.0005), ANSWERS)
 
 
 @check("bytes past the limit that come late")
 def late_past():
-    with tempfile.TemporaryFile() as file:
-        run = start(stdout=file)
-        run.stdin.write(b"\n" * LINES)
-        run.stdin.flush()
-        time.sleep(0.2)
-        return differs(ended(run, b"abc", file), expected(b"\n" * LINES), PAST)
+    return differs(come_late(b"\n" * LINES, b"abc"), expected(b"\n" * LINES), PAST)
 
 
 @check("a stack of 3,100 KiB besides the environment")
@@ -249,17 +177,8 @@ def interrupted_read():
 
 # ---- reads that fail
 
-@check("a directory for input")
-def read_directory():
-    folder = os.open("/", os.O_RDONLY)
-    run = start(folder)
-    os.close(folder)
-    return differs(ended(run), b"", failed("input", errno.EISDIR))
-
-
-@check("closed input")
-def read_closed():
-    return differs(ended(start(before=lambda: os.close(0))), b"", failed("input", errno.EBADF))
+# And the writes that fail of every program.
+CHECKS.update(failing("ledger", EXAMPLE))
 
 
 @check("a connection that is reset within a line")
@@ -276,7 +195,7 @@ def read_reset():
     ours.close()
     seen = ended(run)
     out = next((ANSWERS[:size] for size in (20, 10) if seen[1] == ANSWERS[:size]), b"")
-    return differs(seen, out, failed("input", errno.ECONNRESET))
+    return differs(seen, out, failed("ledger", "input", errno.ECONNRESET))
 
 
 # ---- writes that are tried again
@@ -299,18 +218,6 @@ def blocking_write():
 
 # ---- writes that fail
 
-@check("a full device for output")
-def write_full():
-    with open("/dev/full", "wb") as full:
-        status, _, err = ended(start(stdout=full), EXAMPLE)
-    return differs((status, b"", err), b"", failed("output", errno.ENOSPC))
-
-
-@check("closed output")
-def write_closed():
-    return differs(ended(start(before=lambda: os.close(1)), EXAMPLE), b"", failed("output", errno.EBADF))
-
-
 def into_limited(data, size):
     """Into a file that may not grow past a size."""
     def limit():
@@ -318,7 +225,7 @@ def into_limited(data, size):
         resource.setrlimit(resource.RLIMIT_FSIZE, (size, size))
     with tempfile.TemporaryFile() as file:
         seen = ended(start(opened(data), file, limit), file=file)
-        return differs(seen, expected(data)[:size], failed("output", errno.EFBIG))
+        return differs(seen, expected(data)[:size], failed("ledger", "output", errno.EFBIG))
 
 
 @check("a file that fills up within an answer")
@@ -329,26 +236,6 @@ def write_within():
 @check("a file that fills up before the listing, and lines past the limit")
 def write_before_listing():
     return into_limited(b"\n" * LINES * 2, 10 * LINES)
-
-
-def unread(before, err, status):
-    """A reader that closes its end before the first answer, and one that does so after some."""
-    early = start(before=before)
-    early.stdout.close()
-    late = start(opened(b"\n" * LINES), before=before)
-    late.stdout.read(100_000)
-    late.stdout.close()
-    return differs(ended(early, EXAMPLE), b"", err, status) or differs(ended(late), b"", err, status)
-
-
-@check("a reader that goes")
-def write_unread():
-    return unread(None, failed("output", errno.EPIPE), 0)
-
-
-@check("a reader that goes, the signal ignored")
-def write_unread_ignored():
-    return unread(lambda: signal.signal(signal.SIGPIPE, signal.SIG_IGN), failed("output", errno.EPIPE), 0)
 
 
 # ---- whether an output is whole
@@ -376,31 +263,5 @@ def cut_outputs():
 
 # ---- all of them
 
-def verdict(function):
-    """What a check says, or what kept it from its end."""
-    signal.alarm(SECONDS)
-    try:
-        return function()
-    except (OSError, subprocess.SubprocessError) as error:
-        return repr(error)
-    finally:
-        signal.alarm(0)
-        for run in STARTED:
-            run.kill()
-            run.wait()
-        STARTED.clear()
-
-
-def late(*_):
-    raise TimeoutError(f"not at its end after {SECONDS} seconds")
-
-
-def main():
-    signal.signal(signal.SIGALRM, late)
-    wrong = [f"streams: {name}: {said}" for name, said in ((name, verdict(function)) for name, function in CHECKS.items()) if said]
-    if wrong:
-        sys.exit("\n".join(wrong))
-    print(f"streams: {len(CHECKS)} as they have to be")
-
-
-main()
+make_checks("streams")
+print(f"streams: {len(CHECKS)} as they have to be")
