@@ -3,6 +3,7 @@
 by the calendar of calendar_oracle.py.
 
 Run it so: tests/slide_oracle.py > crates/slide/stdout"""
+import functools
 import re
 import sys
 from datetime import date
@@ -18,16 +19,17 @@ UNENDED = b"slide: the last line has no line end and was not answered\n"
 PAST = b"slide: lines past 999999 were not read\n"
 
 
+@functools.lru_cache(maxsize=2000)
 def answer(line):
-    """To a line without its byte 10."""
+    """What follows the number of a line, which comes without its byte 10."""
     field = FIELD.fullmatch(line) if len(line) == COLUMNS else None
-    return ACCEPTED.get(int(field[1]), NO_DATE) if field else NO_LINE
+    return b"%3d%9d%2d" % (ACCEPTED.get(int(field[1]), NO_DATE) if field else NO_LINE)
 
 
 def written(data):
     """What an input gives on standard output and on standard error."""
     *lines, rest = data.split(b"\n", LINES)
-    out = b"".join(b"%6d%3d%9d%2d\n" % (at, *answer(line)) for at, line in enumerate(lines, 1))
+    out = b"".join(b"%6d%b\n" % (at, answer(line)) for at, line in enumerate(lines, 1))
     said = PAST if len(lines) == LINES else UNENDED
     return out, said if rest else b""
 
