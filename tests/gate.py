@@ -10,14 +10,16 @@ from pathlib import Path
 
 TOP = Path(__file__).resolve().parent.parent
 ORACLES = [path.name.removesuffix("_oracle.py") for path in TOP.glob("tests/*_oracle.py")]
+PROGRAMS = ["slide"]  # whose oracle is that of a program itself, not of its cases
 SYSTEM = ["bash", "env", "dirname", "mktemp", "cat", "rm", "cmp", "grep", "sleep", "touch"]
 RT = '[ "$1" = ci ] || { echo crates.txt; exit; }\necho a line\n'
 WELL = {"crates.txt": "", "bin/rt": RT + "echo 3 passed, 0 failed", "bin/python3": f'exec {sys.executable} "$@"', "bin/rustc": "",
         "bin/cc": "", "tests/gate.py": "", "tests/declarations.py": "",
-        "tests/pages.py": "", "tests/streams.py": "", "twin/compare": "", "examples/run": "", "tools/build": ""}
+        "tests/pages.py": "", "tests/streams.py": "", "tests/slide.py": "", "twin/compare": "", "examples/run": "", "tools/build": ""}
 AGREES = "print('#!/bin/sh\\n1')"
+STDOUT = {oracle: f"crates/{oracle if oracle in PROGRAMS else oracle + '_cases'}/stdout" for oracle in ORACLES}
 for oracle in ORACLES:
-    WELL |= {f"tests/{oracle}_oracle.py": AGREES, f"crates/{oracle}_cases/stdout": "1\n"}
+    WELL |= {f"tests/{oracle}_oracle.py": AGREES, STDOUT[oracle]: "1\n"}
 
 # What is changed, where None takes a file away, and the step that fails by it.
 FAILING = [
@@ -39,10 +41,11 @@ FAILING = [
     ({"examples/run": None}, "examples/run"),
     ({"twin/compare": "exit 1"}, "twin/compare"),
     ({"tests/streams.py": "exit(1)"}, "tests/streams.py"),
+    ({"tests/slide.py": "exit(1)"}, "tests/slide.py"),
 ]
 for oracle in ORACLES:
     FAILING.append(({f"tests/{oracle}_oracle.py": AGREES + "\nexit(1)"}, f"tests/{oracle}_oracle.py"))
-    FAILING.append(({f"crates/{oracle}_cases/stdout": "2\n"}, f"tests/{oracle}_oracle.py"))
+    FAILING.append(({STDOUT[oracle]: "2\n"}, f"tests/{oracle}_oracle.py"))
 
 
 def plant(top, changed):

@@ -1,6 +1,6 @@
 #!/usr/bin/env python3
 """The pages say what is there: each name cited in docs/RULES.md and docs/PROMISES.md is defined in the file cited with it, and PROMISES
-cites every must-fail edit. With the path of `ledger`: the example lines of docs/EVENTS.md get the answers that stand there."""
+cites every must-fail edit. With the paths of `ledger` and `slide`: the example lines of docs/EVENTS.md get the answers that stand there."""
 import pathlib
 import re
 import subprocess
@@ -12,6 +12,7 @@ DEFINITION = {
     ".antt": r"^\s*(?:abbrev |unfoldable )?(?:pub )?(?:record |data )?%s(?: [^=\n]*)?:",
     ".rt": r'^\s*(?:pub )?(?:extern "C" )?(?:fn|struct|enum|const|trait) %s\b',
 }
+SLIDES = re.compile(r"^```dates\n(.*?)^```$.*?^```kept\n(.*?)^```$", re.S | re.M)
 EXAMPLE = re.compile(r"^```events ?(\S*)\n(.*?)^```$.*?^```answers\n(.*?)^```$", re.S | re.M)
 
 
@@ -38,12 +39,23 @@ def citations():
     return wrong + ["no rule cites a definition"] * (not rules)
 
 
+def output_of(program, given):
+    return subprocess.run([program], input=given, capture_output=True, text=True, check=True).stdout
+
+
+def slides(slide):
+    """The examples of dates whose answers are others."""
+    found = SLIDES.findall((ROOT / "docs/EVENTS.md").read_text())
+    wrong = ["EVENTS.md: slide gives other answers than\n" + answers for dates, answers in found if output_of(slide, dates) != answers]
+    return wrong + ["EVENTS.md: no example of dates"] * (not found)
+
+
 def examples(ledger):
     """The examples whose answers are others. An example may begin with a file; of its own lines those without a printed answer get 0."""
     wrong, found = [], EXAMPLE.findall((ROOT / "docs/EVENTS.md").read_text())
     for file, own, answers in found:
         begin = (ROOT / file).read_text() if file else ""
-        output = subprocess.run([ledger], input=begin + own, capture_output=True, text=True, check=True).stdout
+        output = output_of(ledger, begin + own)
         unprinted = output.removesuffix(answers).splitlines()[begin.count("\n"):]
         printed = sum(len(line) == 9 for line in answers.splitlines())
         if not output.endswith(answers) or len(unprinted) + printed != own.count("\n") or not all(line.endswith("  0") for line in unprinted):
@@ -51,6 +63,7 @@ def examples(ledger):
     return wrong + ["EVENTS.md: no example"] * (not found)
 
 
-WRONG = sorted(citations() + (examples(sys.argv[1]) if sys.argv[1:] else []))
+PROGRAMS = zip((examples, slides), sys.argv[1:])
+WRONG = sorted(citations() + [words for holds, program in PROGRAMS for words in holds(program)])
 print("\n".join(WRONG) or "pages: all that is cited is there")
 sys.exit(bool(WRONG))

@@ -103,6 +103,8 @@ pub record Slides (x : ℕ) : Type 0 where
 pub record SlideLimit : Type 0 where
   -- for every date of the calendar, 20000101 to 21991231
   pub every_date : (x : ℕ) → is_date x ≡ true → Slides x
-  -- the limit is reached in two ways: from Good Friday past Easter Monday, and from 25 December where that is a Thursday
+  -- the limit is reached in three ways: from Good Friday past Easter Monday, from 25 December where that is a Thursday, and from the
+  -- Saturday before where it is a Monday
   pub at_easter : kept 20240329 ≡ Some (record { date = 20240402; slid = record { 0 = slide_limit } })
-  pub at_christmas : kept 20251225 ≡ Some (record { date = 20251229; slid = record { 0 = slide_limit } })
+  pub from_thursday : kept 20251225 ≡ Some (record { date = 20251229; slid = record { 0 = slide_limit } })
+  pub from_saturday : kept 20231223 ≡ Some (record { date = 20231227; slid = record { 0 = slide_limit } })

@@ -9,7 +9,7 @@ use calendar::{BusinessDays, CalendarDays, Months, Period, easter, gregorian, pe
 use std::io;
 
 // Closing days and their neighbours, month ends, leap days and year ends; and numbers that are no dates.
-const DATES: [u64; 40] = [
+const DATES: [u64; 42] = [
     20000101, // the calendar's first days
     20000102, 20000103, 20000104, 20000229, // leap days, and days that look like them
     20001231, 20091231, 20100101, // the ends of the range
@@ -18,7 +18,7 @@ const DATES: [u64; 40] = [
     20240229, 20240301, 20240328, // around Easter 2024
     20240329, 20240330, 20240331, 20240401, 20240402, 20240430, // 1 May
     20240501, 20240502, 20241224, // Christmas and the year's end
-    20241225, 20241226, 20241227, 20241231, 20250131, 20251130, 21000228, // no leap year
+    20231223, 20251225, 20241225, 20241226, 20241227, 20241231, 20250131, 20251130, 21000228, // no leap year
     21000301, 21890228, 21891231, 21991224, // the calendar's last days
     21991231, 20230229, // no dates
     21000229, 22000101,

@@ -4,6 +4,9 @@ use mathlib.Core.Path.{◌≡◌, refl, ap, ◌∙◌}
 use mathlib.Core.Bool.{Bool, true, ◌&&◌}
 use mathlib.Core.List.{List, [], ◌∷◌}
 use Prim.Native.Nat.{ℕ}
+use Rattle.std.proofs.Common.{Result}
+use Rattle.refusals.specs.declared.Refusal.{Refusal}
+use Rattle.events.specs.declared.Event.{Event}
 use lib.Dec.{T, eqb, eqb→eq}
 use mir.Facts.{and_yes}
 use Rattle.calendar.specs.Easter.{easter_of}
@@ -11,26 +14,35 @@ use Rattle.positions.specs.Compensation.{compensation as compensationFor, intere
 use Rattle.tables.specs.Ledger.{Ledger}
 use Rattle.opening.specs.Opening.{fresh}
 use Rattle.model.specs.Lookups.{mandate_of, collection_of}
-use Rattle.model.specs.Step.{answer_number}
+use Rattle.model.specs.Actions.{action_of}
+use Rattle.model.specs.Step.{answer_number, answer_value, handed_on, verdict_by, outcome}
 use Rattle.witness.specs.Opening.{lent}
 use Rattle.witness.proofs.Ruled.{ruled_answer, ruled_run, lent_sizes, opened_run, opened_answer}
 use Rattle.thirteen.specs.Thirteen.{events, said, Question, Row, table, Agree, Thirteen}
-use Rattle.thirteen.specs.Thirteen.Question.{Easter, KeptFor, Months, Answer, Cents}
+use Rattle.thirteen.specs.Thirteen.Question.{Easter, KeptFor, SlidFrom, Months, Answer, Value, Cents}
 
 -- ---- the answers by the rules alone, which compute
 
 abbrev computed : Question → ℕ
 computed (Easter year) = said (Easter year)
 computed (KeptFor requested) = said (KeptFor requested)
+computed (SlidFrom requested) = said (SlidFrom requested)
 computed (Months n date) = said (Months n date)
 computed (Answer e) = answer_number (ruled_answer (ruled_run (fresh lent) events) e)
+computed (Value e) = answer_value (verdict_by (ruled_answer (ruled_run (fresh lent) events) e) (handed_on (action_of e)))
 computed (Cents date amount rate days) = said (Cents date amount rate days)
+
+value_computed : (e : Event) → said (Value e) ≡ computed (Value e)
+unfolding outcome
+value_computed e = ap (λ (a : Result Unit Refusal). answer_value (verdict_by a (handed_on (action_of e)))) (opened_answer lent lent_sizes events e)
 
 said_computed : (q : Question) → said q ≡ computed q
 said_computed (Easter year) = refl
 said_computed (KeptFor requested) = refl
+said_computed (SlidFrom requested) = refl
 said_computed (Months n date) = refl
 said_computed (Answer e) = ap answer_number (opened_answer lent lent_sizes events e)
+said_computed (Value e) = value_computed e
 said_computed (Cents date amount rate days) = refl
 
 -- ---- all rows by one test

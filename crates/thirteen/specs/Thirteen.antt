@@ -12,10 +12,10 @@ use Rattle.tables.specs.declared.Mandate.{Mandate}
 use Rattle.tables.specs.declared.Standing.TheVariants.{Live}
 use Rattle.tables.specs.declared.Collection.{Collection}
 use Rattle.tables.specs.declared.State.TheVariants.{Settled}
-use Rattle.model.specs.Deadlines.{date_found, kept_due}
+use Rattle.model.specs.Deadlines.{date_found, kept_due, slid}
 use Rattle.model.specs.Lookups.{mandate_of, collection_of}
 use Rattle.model.specs.Lookups.Known.{known}
-use Rattle.model.specs.Step.{answer_number, answer, run}
+use Rattle.model.specs.Step.{answer_number, answer_value, answer, outcome, run}
 use Rattle.witness.specs.Opening.{event, lent}
 
 -- ---- the ledger that is asked
@@ -64,8 +64,10 @@ collection = record {
 pub data Question : Type 0 where
   Easter : ℕ → Question  -- of a year
   KeptFor : ℕ → Question  -- the kept due of a requested date
+  SlidFrom : ℕ → Question  -- the calendar days from a requested date to its kept due
   Months : ℕ → ℕ → Question  -- a number of them after a date
   Answer : Event → Question  -- of the ledger, to an event
+  Value : Event → Question  -- what that answer hands on
   Cents : ℕ → ℕ → ℕ → ℕ → Question  -- K of a refund's date, an amount, a rate and days
 
 -- of collection 70, on a date
@@ -86,8 +88,10 @@ collect date due = Answer (event 5 date 7 71 0 0 10000 due 1)
 abbrev pub said : Question → ℕ
 said (Easter year) = date_found (easter_of year)
 said (KeptFor requested) = kept_due requested
+said (SlidFrom requested) = (slid requested).0
 said (Months n date) = date_found (months_after (record { 0 = n }) date)
 said (Answer e) = answer_number (answer book e)
+said (Value e) = answer_value (outcome book e)
 said (Cents date amount rate days) = compensationFor date amount rate days
 
 -- ---- the table

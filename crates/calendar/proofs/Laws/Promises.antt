@@ -127,4 +127,4 @@ slides x h =
 
 pub slide_limit_lem : SlideLimit
 unfolding leap leap_day month_length is_date days_before year_start day_number year_at month_at date_in date_at date_of computus easter_sunday closed_by closed business_day is_open seek first_open first_business_day kept
-slide_limit_lem = record { every_date = slides; at_easter = refl; at_christmas = refl }
+slide_limit_lem = record { every_date = slides; at_easter = refl; from_thursday = refl; from_saturday = refl }
