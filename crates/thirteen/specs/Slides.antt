@@ -1,9 +1,9 @@
 -- Document 02, (e): by how many calendar days a due date slid, and what the ledger hands on of it. A third table, read as the first one; its
 -- ledger is that of the first one. Assumes nothing.
-use Rattle.std.specs.Prelude.{◌≡◌, List, [], ◌∷◌, ℕ}
+use Rattle.std.specs.Prelude.{◌≡◌, List, [], ◌∷◌}
 use Rattle.events.specs.declared.Event.{Event}
 use Rattle.witness.specs.Opening.{event}
-use Rattle.thirteen.specs.Thirteen.{Question, Row, row, Agree, questions_of, collect}
+use Rattle.thirteen.specs.Thirteen.{Question, Row, row, Agree, questions_of}
 use Rattle.thirteen.specs.Thirteen.Question.{KeptFor, SlidFrom, Answer, Value}
 
 -- ---- the table

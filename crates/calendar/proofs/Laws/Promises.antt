@@ -121,7 +121,7 @@ slides x h =
       is = kept_is x h;
       first = first_business_day_is x h;
       counted = slide_counted x h;
-      limit = slide_near x h;
+      limit = omega (arith, slide_near x h);
       none = slide_none x h;
     }
 
