@@ -4,9 +4,8 @@ ghost use Rattle.calendar.specs.DayNumber.{in_calendar};
 ghost use Rattle.calendar.specs.Target.{business_day, is_open, first_open, last_open_before, answer_date, kept, last_business_day_before};
 
 use crate::easter::easter_place;
-use crate::gregorian;
 use crate::gregorian::Day;
-use crate::{CalendarDays, Kept};
+use crate::{CalendarDays, Kept, gregorian};
 
 // Whether a day is a business day. The table of Easter is read only for a day from two before 22 March to the one after 25 April.
 #[tactic(auto, using(crate::proofs::Laws::Rules::of_is_open_day))]

@@ -137,7 +137,11 @@ pub fn collect(
     let (m, presented) = judge_collect(lent, collections, date, p, mandate, collection)?;
     let used = lent.header.collections;
     let c = new_collection(lent.creditors, presented, m);
-    put_record(lent.mandates, found_row(mandate), presented_on(presented, m));
+    put_record(
+        lent.mandates,
+        found_row(mandate),
+        presented_on(presented, m),
+    );
     put_record(collections, used, c);
     lent.header.latest = date;
     lent.header.collections = used + 1;

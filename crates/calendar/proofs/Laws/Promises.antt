@@ -114,17 +114,18 @@ periods_end p x r l =
 
 -- ---- how far a due date slides
 
-slides : (x : ℕ) → is_date x ≡ true → Slides x
-slides x h =
-    record {
-      answer = record { date = kept_date x; slid = record { 0 = slide x } };
-      is = kept_is x h;
-      first = first_business_day_is x h;
-      counted = slide_counted x h;
-      limit = omega (arith, slide_near x h);
-      none = slide_none x h;
-    }
-
 pub slide_limit_lem : SlideLimit
 unfolding leap leap_day month_length is_date days_before year_start day_number year_at month_at date_in date_at date_of computus easter_sunday closed_by closed business_day is_open seek first_open first_business_day kept
-slide_limit_lem = record { every_date = slides; at_easter = refl; from_thursday = refl; from_saturday = refl }
+slide_limit_lem = record {
+  every_date = λ x h. record {
+    answer = record { date = kept_date x; slid = record { 0 = slide x } };
+    is = kept_is x h;
+    first = first_business_day_is x h;
+    counted = slide_counted x h;
+    limit = omega (arith, slide_near x h);
+    none = slide_none x h;
+  };
+  at_easter = refl;
+  from_thursday = refl;
+  from_saturday = refl;
+}
