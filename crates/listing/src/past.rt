@@ -1,8 +1,8 @@
 // The lines past the last that is answered: specs/Past.
 ghost use Rattle.std.specs.Prelude.{◌≡◌, cond, [], ◌-◌, eqb, length};
 ghost use Rattle.lines.specs.Line.{line_end};
+ghost use Rattle.report.specs.Cut.{lines_from};
 ghost use Rattle.report.specs.Layout.{last_number};
-ghost use Rattle.run.specs.Lines.{lines_from};
 ghost use Rattle.listing.specs.Past.{lines_past, goes_past};
 
 use lines::line::LINE_END;

@@ -1,6 +1,6 @@
--- Where a line of the input ends. Document 01, "The text line": at a byte 10 and nowhere else. Bytes are numbers.
+-- Where a line of the input ends, and the lines of a text. Document 01, "The text line": at a byte 10 and nowhere else. Bytes are numbers.
 -- To cite: proofs/Laws/Cut. Assumes nothing.
-use Rattle.std.specs.Prelude.{◌≡◌, ◌≢◌, Bool, true, false, List, ℕ, ◌-◌, ◌<◌, eqb, length, get_or, Option, Some, None}
+use Rattle.std.specs.Prelude.{◌≡◌, ◌≢◌, Bool, true, false, cond, List, [], ◌∷◌, ◌++◌, ℕ, ◌-◌, ◌<◌, eqb, length, get_or, Option, Some, None}
 use Rattle.common.specs.Walk.{first_from}
 use Rattle.lines.specs.Line.{line_end}
 
@@ -22,3 +22,21 @@ is_at k (Some i) = eqb i k
 -- the first byte that ends a line is at i
 abbrev pub IsFirstEnd : List ℕ → ℕ → Type 0
 IsFirstEnd text i = (i < length text) × (get_or text i 0 ≡ line_end) × ((k : ℕ) → k < i → get_or text k 0 ≢ line_end)
+
+-- ---- a text by its lines
+
+-- each byte 10 ends a line; the bytes of a partial one stand before the text
+unfoldable pub lines_from : List ℕ → List ℕ → List (List ℕ)
+lines_from partial [] = []
+lines_from partial (b ∷ bs) =
+    cond (eqb b line_end)
+    ((partial ++ (b ∷ [])) ∷ lines_from [] bs)
+    (lines_from (partial ++ (b ∷ [])) bs)
+
+-- the bytes behind the last
+unfoldable pub last_from : List ℕ → List ℕ → List ℕ
+last_from partial [] = partial
+last_from partial (b ∷ bs) = cond (eqb b line_end) (last_from [] bs) (last_from (partial ++ (b ∷ [])) bs)
+
+abbrev pub last_piece : List ℕ → List ℕ
+last_piece text = last_from [] text

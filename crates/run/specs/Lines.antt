@@ -1,33 +1,18 @@
 -- A text by its lines, and what is answered to them: the run said once more, with no byte of it kept back. Document 01, "The text
 -- line" and "The journal". Assumes nothing.
-use Rattle.std.specs.Prelude.{cond, List, [], ◌∷◌, ◌++◌, ℕ, ◌+◌, ◌-◌, eqb, take, Result, Ok, Err}
+use Rattle.std.specs.Prelude.{List, [], ◌∷◌, ◌++◌, ℕ, ◌+◌, ◌-◌, eqb, take, Result, Ok, Err}
 use Rattle.events.specs.declared.Event.{Event}
-use Rattle.lines.specs.Line.{line_end, read_line}
+use Rattle.lines.specs.Line.{read_line}
 use Rattle.tables.specs.Ledger.{Ledger}
 use Rattle.model.specs.Step.{answer_number, Entry, entry}
+use Rattle.report.specs.Cut.{lines_from}
 use Rattle.report.specs.Layout.{last_number, answer_line}
 use Rattle.run.specs.Run.{answer_to, after_line}
 use Rattle.refusals.specs.declared.Refusal.{Refusal}
 
--- each byte 10 ends a line; the bytes of a partial one stand before the text
-unfoldable pub lines_from : List ℕ → List ℕ → List (List ℕ)
-lines_from partial [] = []
-lines_from partial (b ∷ bs) =
-    cond (eqb b line_end)
-    ((partial ++ (b ∷ [])) ∷ lines_from [] bs)
-    (lines_from (partial ++ (b ∷ [])) bs)
-
 -- the lines that are answered, where n were before
 unfoldable pub answered_lines : ℕ → List ℕ → List (List ℕ)
 answered_lines n text = take (last_number - n) (lines_from [] text)
-
--- the bytes behind the last
-unfoldable pub last_from : List ℕ → List ℕ → List ℕ
-last_from partial [] = partial
-last_from partial (b ∷ bs) = cond (eqb b line_end) (last_from [] bs) (last_from (partial ++ (b ∷ [])) bs)
-
-abbrev pub last_piece : List ℕ → List ℕ
-last_piece text = last_from [] text
 
 -- the events that the reader takes
 abbrev pub event_in : Result Event Refusal → List Event

@@ -4,14 +4,13 @@ use mathlib.Core.Path.{◌≡◌, refl, sym, ap, ◌∙◌}
 use mathlib.Core.Bool.{Bool, true, false}
 use mathlib.Core.List.{List, [], ◌∷◌, ◌++◌}
 use Prim.Native.Nat.{ℕ, ◌+◌, ◌-◌}
-use native.Mathlib.Nat.{add-zero, sub-eq-zero_of_le}
+use native.Mathlib.Nat.{add-zero}
 use native.Mathlib.Omega.{arith}
-use borrow.Author.Tests.{ltb-true, ltb-false, lt-ltb}
+use borrow.Author.Tests.{lt-ltb}
 use lib.Dec.{eqb, ltb}
 use lib.ListN.{length, take, length-take}
 use lib.Seq.{take-nil}
 use Rattle.common.proofs.Tests.{either}
-use Rattle.common.proofs.Walk.{one_more}
 use Rattle.refusals.specs.declared.Refusal.{Refusal}
 use Rattle.events.specs.declared.Event.{Event}
 use Rattle.lines.specs.Line.{line_end, read_line}
@@ -19,10 +18,12 @@ use Rattle.tables.specs.Ledger.{Ledger}
 use Rattle.model.proofs.Laws.Answers.{accepted_number}
 use Rattle.model.proofs.Laws.Batch.{run_both}
 use Rattle.model.specs.Step.{answer_number, answer, after, run, Entry, entry, history}
+use Rattle.report.specs.Cut.{lines_from, last_from}
 use Rattle.report.specs.Layout.{last_number, answer_line}
 use Rattle.run.specs.Run.{Run, run_at, clipped_length, clipped, answer_to, after_line, ended, line_output, take_byte, byte_output, take_text, text_output}
-use Rattle.run.specs.Lines.{lines_from, answered_lines, last_from, event_in, events_of, answers_of, answers_output, entry_in, history_of}
+use Rattle.run.specs.Lines.{answered_lines, event_in, events_of, answers_of, answers_output, entry_in, history_of}
 use Rattle.run.specs.Promises.{LineByLine}
+use Rattle.report.proofs.Laws.Lines.{answered_first, answered_none}
 use Rattle.run.proofs.Laws.Run.{clipped_clipped, ended_clipped, line_output_clipped}
 
 -- ---- the ledger after a line
@@ -54,13 +55,6 @@ output_history (line ∷ rest) l = by_line (read_line line) (λ m. output_histor
     by_line (Err r) on = on l
 
 -- ---- a text by its lines, with the bytes of a partial one
-
--- the first line is answered while fewer than 999,999 were
-answered_first : (n : ℕ) (line : List ℕ) (rest : List (List ℕ)) → ltb n last_number ≡ true → take (last_number - n) (line ∷ rest) ≡ line ∷ take (last_number - (n + 1)) rest
-answered_first n line rest e = rw (one_more n last_number (ltb-true n last_number e))
-
-answered_none : (n : ℕ) (rest : List (List ℕ)) → ltb n last_number ≡ false → take (last_number - n) rest ≡ []
-answered_none n rest e = rw (sub-eq-zero_of_le (ltb-false n last_number e))
 
 -- how far the run is after lines of which a last piece is left
 abbrev run_over : Ledger → ℕ → List (List ℕ) → List ℕ → Run

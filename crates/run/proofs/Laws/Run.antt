@@ -3,13 +3,13 @@
 use mathlib.Core.Path.{◌≡◌, refl, sym, ap, ◌∙◌}
 use mathlib.Core.Logic.{⊎_elim, ◌≢◌}
 use mathlib.Core.List.{List, [], ◌∷◌, ◌++◌, append_assoc, append-nil}
-use Prim.Native.Nat.{ℕ, suc, ◌+◌, ◌-◌, ◌≤◌, ◌<◌}
+use Prim.Native.Nat.{ℕ, ◌+◌, ◌-◌, ◌≤◌, ◌<◌}
 use native.Mathlib.Nat.{eq-or-lt_of_le}
 use native.Mathlib.Omega.{arith}
 use borrow.Author.Tests.{ne_eqb, eqb-false, leb-true, leb-false}
 use lib.Dec.{eqb, leb, ltb}
-use lib.ListN.{length, take, drop, get_or, length-append, length-take, length-drop, take-append-drop, get_or-append}
-use lib.Seq.{take_all, take-append-le, take-take, length-take-le, take-add, take-suc, get_or-take, get_or-drop, get_or-append_seam}
+use lib.ListN.{length, take, drop, get_or, length-append, length-take, take-append-drop, get_or-append}
+use lib.Seq.{take_all, take-append-le, take-take, length-take-le, get_or-take, get_or-append_seam}
 use Rattle.std.proofs.lemmas.Bool.{cond_both}
 use Rattle.common.proofs.Tests.{either}
 use Rattle.lines.specs.Line.{line_end, read_line}
@@ -19,6 +19,7 @@ use Rattle.report.specs.Layout.{last_number}
 use Rattle.run.specs.Run.{Run, run_at, clipped_length, clipped, ended, line_output, take_byte, byte_output, take_text, text_output, end_text, end_output}
 use Rattle.run.specs.Promises.{take_piece, next_output, take_pieces, pieces_output, at_once, InPieces}
 use Rattle.report.proofs.Laws.Cut.{Endless, FirstEnd}
+use Rattle.report.proofs.Laws.Lines.{endless_rest, segment, segment_endless, segment_end, split_line, rest_endless}
 
 -- ---- one text behind the other
 
@@ -61,10 +62,6 @@ read_line_kept x =
     ∙ sym (read_line_length x (λ e. omega arith)))
 
 -- ---- bytes that end no line
-
--- those of the rest of a text
-endless_rest : (b : ℕ) (h : List ℕ) → Endless (b ∷ h) → Endless h
-endless_rest b h e j l = e (suc j) (omega arith)
 
 pub run_partial : (h : List ℕ) (r : Run) → Endless h → length r.partial ≤ clipped_length → take_text r h ≡ run_at r.book r.lines (clipped (r.partial ++ h))
 unfolding take_text
@@ -231,54 +228,28 @@ answering_start l n text = record { now = refl; so_far = refl }
 
 -- the line from a place to its end
 module _ (text : List ℕ) (at k : ℕ) (f : FirstEnd text at k) where
-  abbrev segment : List ℕ
-  segment = take (k - at) (drop at text)
-
-  length_segment : length segment ≡ k - at
-  length_segment = length-take-le (k - at) (drop at text) (omega (arith, length-drop at text, f.inside, f.onward))
-
-  segment_endless : Endless segment
-  segment_endless j h q =
-      let m = length_segment in
-      f.none_before (at + j) (omega arith) (omega (arith, f.onward))
-      (sym (get_or-drop at text j 0) ∙ sym (get_or-take (k - at) (drop at text) j 0 (omega arith)) ∙ q)
-
-  segment_end : take (k + 1 - at) (drop at text) ≡ segment ++ (line_end ∷ [])
-  segment_end =
-      let n : k + 1 - at ≡ suc (k - at) = omega (arith, f.onward) in
-      let m : at + (k - at) ≡ k = omega (arith, f.onward) in
-      ap (λ (z : ℕ). take z (drop at text)) n
-      ∙ take-suc (drop at text) (k - at) 0 (omega (arith, length-drop at text, f.inside, f.onward))
-      ∙ ap (λ (z : ℕ). segment ++ (z ∷ []))
-      (get_or-drop at text (k - at) 0 ∙ ap (λ (z : ℕ). get_or text z 0) m ∙ f.ends)
-
-  split_line : take (k + 1) text ≡ take at text ++ take (k + 1 - at) (drop at text)
-  split_line =
-      let m : k + 1 ≡ at + (k + 1 - at) = omega (arith, f.onward) in
-      ap (λ (z : ℕ). take z text) m ∙ take-add at (k + 1 - at) text
-
   -- what the line adds to a run
   module _ (s : Run) (l : Ledger) (n : ℕ) (written line : List ℕ) (a : Answering s text at l n written) (p : line ≡ take (k + 1 - at) (drop at text)) where
-    whole : line ≡ segment ++ (line_end ∷ [])
-    whole = p ∙ segment_end
+    whole : line ≡ segment text at k f ++ (line_end ∷ [])
+    whole = p ∙ segment_end text at k f
 
     pub line_after : take_text s (take (k + 1) text) ≡ ended (run_at l n []) line
     line_after =
-        ap (take_text s) split_line
+        ap (take_text s) (split_line text at k f)
         ∙ run_append (take at text) (take (k + 1 - at) (drop at text)) s
         ∙ ap (λ (r : Run). take_text r (take (k + 1 - at) (drop at text))) a.now
-        ∙ ap (take_text (run_at l n [])) segment_end
-        ∙ (one_line l n segment segment_endless).after
+        ∙ ap (take_text (run_at l n [])) (segment_end text at k f)
+        ∙ (one_line l n (segment text at k f) (segment_endless text at k f)).after
         ∙ ap (ended (run_at l n [])) (sym whole)
 
     pub line_output_lem : text_output s (take (k + 1) text) ≡ written ++ line_output (run_at l n []) line
     line_output_lem =
-        ap (text_output s) split_line
+        ap (text_output s) (split_line text at k f)
         ∙ output_append (take at text) (take (k + 1 - at) (drop at text)) s
         ∙ ap (λ (x : List ℕ). x ++ text_output (take_text s (take at text)) (take (k + 1 - at) (drop at text))) a.so_far
         ∙ ap (λ (r : Run). written ++ text_output r (take (k + 1 - at) (drop at text))) a.now
-        ∙ ap (λ (x : List ℕ). written ++ text_output (run_at l n []) x) segment_end
-        ∙ ap (λ (x : List ℕ). written ++ x) (one_line l n segment segment_endless).written
+        ∙ ap (λ (x : List ℕ). written ++ text_output (run_at l n []) x) (segment_end text at k f)
+        ∙ ap (λ (x : List ℕ). written ++ x) (one_line l n (segment text at k f) (segment_endless text at k f)).written
         ∙ ap (λ (x : List ℕ). written ++ line_output (run_at l n []) x) (sym whole)
 
     pub answering_line : (l' : Ledger) (n' : ℕ) → run_at l' n' [] ≡ ended (run_at l n []) line → Answering s text (k + 1) l' n' (written ++ line_output (run_at l n []) line)
@@ -286,22 +257,18 @@ module _ (text : List ℕ) (at k : ℕ) (f : FirstEnd text at k) where
 
 -- the bytes behind the last line
 module _ (text : List ℕ) (at : ℕ) (none : (j : ℕ) → at ≤ j → j < length text → get_or text j 0 ≢ line_end) where
-  rest_endless : Endless (drop at text)
-  rest_endless j h q =
-      none (at + j) (omega arith) (omega (arith, length-drop at text)) (sym (get_or-drop at text j 0) ∙ q)
-
   module _ (s : Run) (l : Ledger) (n : ℕ) (written : List ℕ) (a : Answering s text at l n written) where
     pub rest_after : take_text s text ≡ run_at l n (clipped (drop at text))
     rest_after =
         ap (take_text s) (sym (take-append-drop at text))
         ∙ run_append (take at text) (drop at text) s
         ∙ ap (λ (r : Run). take_text r (drop at text)) a.now
-        ∙ run_partial (drop at text) (run_at l n []) rest_endless (omega arith)
+        ∙ run_partial (drop at text) (run_at l n []) (rest_endless text at none) (omega arith)
 
     pub rest_output : text_output s text ≡ written
     rest_output =
         ap (text_output s) (sym (take-append-drop at text))
         ∙ output_append (take at text) (drop at text) s
         ∙ ap (λ (x : List ℕ). x ++ text_output (take_text s (take at text)) (drop at text)) a.so_far
-        ∙ ap (λ (x : List ℕ). written ++ x) (output_partial (drop at text) (take_text s (take at text)) rest_endless)
+        ∙ ap (λ (x : List ℕ). written ++ x) (output_partial (drop at text) (take_text s (take at text)) (rest_endless text at none))
         ∙ append-nil written
