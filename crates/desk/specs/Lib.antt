@@ -1,3 +1,4 @@
 -- Document 02, (e), in definitions; read in this order.
 pub mod Lines  -- the lines of a text, and what is written to them, whatever is asked
 pub mod Slide  -- the question for the kept due date, and what is said to it
+pub mod Promises  -- what is promised of the answers

@@ -1,19 +1,22 @@
 -- Laws of a text by its lines, specs/Cut. To cite: of the line from a place to its end `segment` with its laws; `rest_endless`; `lines_first`,
--- `lines_none`; of no more than 999,999 lines `answered_first`, `answered_none`. Assumes nothing.
+-- `lines_none`; of no more than 999,999 lines `answered_first`, `answered_none`; of a text in two parts `lines_append`, `last_endless`,
+-- `lines_partial`, `all_bytes`. Assumes nothing.
+use Rattle.std.specs.List.{concat}
 use mathlib.Core.Path.{◌≡◌, refl, sym, ap, ◌∙◌}
 use mathlib.Core.Bool.{true, false}
-use mathlib.Core.List.{List, [], ◌∷◌, ◌++◌, append_assoc}
-use mathlib.Core.Logic.{◌≢◌}
+use mathlib.Core.List.{List, [], ◌∷◌, ◌++◌, append_assoc, append-nil}
+use mathlib.Core.Logic.{⊎_elim, ◌≢◌}
 use Prim.Native.Nat.{ℕ, suc, ◌+◌, ◌-◌, ◌≤◌, ◌<◌}
-use native.Mathlib.Nat.{sub-eq-zero_of_le}
+use native.Mathlib.Nat.{eq-or-lt_of_le, sub-eq-zero_of_le}
 use native.Mathlib.Omega.{arith}
-use borrow.Author.Tests.{ne_eqb, ltb-true, ltb-false}
-use lib.Dec.{ltb}
-use lib.ListN.{length, take, drop, get_or, length-drop, take-append-drop}
-use lib.Seq.{length-take-le, take-add, take-suc, get_or-take, get_or-drop, drop-drop}
+use borrow.Author.Tests.{ne_eqb, eqb-false, ltb-true, ltb-false}
+use lib.Dec.{eqb, ltb}
+use lib.ListN.{length, take, drop, get_or, length-append, length-drop, take-append-drop, get_or-append}
+use lib.Seq.{length-take-le, take-add, take-suc, get_or-take, get_or-drop, get_or-append_seam, drop-drop}
+use Rattle.common.proofs.Tests.{either}
 use Rattle.common.proofs.Walk.{one_more}
 use Rattle.lines.specs.Line.{line_end}
-use Rattle.report.specs.Cut.{lines_from}
+use Rattle.report.specs.Cut.{lines_from, last_from}
 use Rattle.report.specs.Layout.{last_number}
 use Rattle.report.proofs.Laws.Cut.{Endless, FirstEnd}
 
@@ -89,3 +92,52 @@ answered_first n line rest e = rw (one_more n last_number (ltb-true n last_numbe
 
 pub answered_none : (n : ℕ) (rest : List (List ℕ)) → ltb n last_number ≡ false → take (last_number - n) rest ≡ []
 answered_none n rest e = rw (sub-eq-zero_of_le (ltb-false n last_number e))
+
+-- ---- a text in two parts
+
+-- one byte more that ends no line
+endless_more : (x : List ℕ) (b : ℕ) → Endless x → b ≢ line_end → Endless (x ++ (b ∷ []))
+endless_more x b e n j h q =
+    let m = length-append x (b ∷ []) in
+    ⊎_elim
+    (λ (i : j ≡ length x). n (sym (get_or-append_seam x b [] 0) ∙ ap (λ (z : ℕ). get_or (x ++ (b ∷ [])) z 0) (sym i) ∙ q))
+    (λ (i : j < length x). e j i (sym (get_or-append x (b ∷ []) 0 j i) ∙ q))
+    (eq-or-lt_of_le (omega arith))
+
+-- the bytes behind the last line end none
+pub last_endless : (x p : List ℕ) → Endless p → Endless (last_from p x)
+unfolding last_from
+last_endless [] p e = e
+last_endless (b ∷ x) p e =
+    either (eqb b line_end)
+    (λ t. rw t (last_endless x [] (λ j h. absurd (omega arith))))
+    (λ t. rw t (last_endless x (p ++ (b ∷ [])) (endless_more p b e (eqb-false b line_end t))))
+
+-- they stand before the second part
+pub lines_append : (x p y : List ℕ) → lines_from p (x ++ y) ≡ lines_from p x ++ lines_from (last_from p x) y
+unfolding lines_from last_from
+lines_append [] p y = refl
+lines_append (b ∷ x) p y =
+    either (eqb b line_end)
+    (λ t. rw t (ap (λ (ls : List (List ℕ)). (p ++ (b ∷ [])) ∷ ls) (lines_append x [] y)))
+    (λ t. rw t (lines_append x (p ++ (b ∷ [])) y))
+
+pub lines_partial : (q p y : List ℕ) → Endless q → lines_from p (q ++ y) ≡ lines_from (p ++ q) y
+unfolding lines_from
+lines_partial [] p y e = ap (λ (x : List ℕ). lines_from x y) (sym (append-nil p))
+lines_partial (b ∷ q) p y e =
+    rw (ne_eqb b line_end (e 0 (omega arith)))
+    (lines_partial q (p ++ (b ∷ [])) y (endless_rest b q e) ∙ ap (λ (x : List ℕ). lines_from x y) (append_assoc p (b ∷ []) q))
+
+-- the lines and the bytes behind them are the whole text
+pub all_bytes : (x p : List ℕ) → concat (lines_from p x) ++ last_from p x ≡ p ++ x
+unfolding lines_from last_from
+all_bytes [] p = sym (append-nil p)
+all_bytes (b ∷ x) p =
+    either (eqb b line_end)
+    (λ t.
+    rw t
+    (append_assoc (p ++ (b ∷ [])) (concat (lines_from [] x)) (last_from [] x)
+    ∙ ap (λ (z : List ℕ). (p ++ (b ∷ [])) ++ z) (all_bytes x [])
+    ∙ append_assoc p (b ∷ []) x))
+    (λ t. rw t (all_bytes x (p ++ (b ∷ [])) ∙ append_assoc p (b ∷ []) x))
