@@ -259,7 +259,7 @@ pub record TwoAtOnce (long : ℕ) (said : List ℕ → List ℕ) (n : ℕ) (firs
   pub written : output_of said n (first ++ second) ≡ output_of said n first ++ piece_output said (after long n first) second
 
 module _ (long : ℕ) (said : List ℕ → List ℕ) (alike : LongAlike long said) (n : ℕ) where
-  stage_of : {k m : ℕ} {x y : List ℕ} → k ≡ m → x ≡ y → ◌≡◌ {A = Stage} (record { lines = k; rest = x }) (record { lines = m; rest = y })
+  pub stage_of : {k m : ℕ} {x y : List ℕ} → k ≡ m → x ≡ y → ◌≡◌ {A = Stage} (record { lines = k; rest = x }) (record { lines = m; rest = y })
   stage_of p q = cc
 
   pub two_at_once : (first second : List ℕ) → TwoAtOnce long said n first second
@@ -308,7 +308,7 @@ module _ (long : ℕ) (said : List ℕ → List ℕ) (alike : LongAlike long sai
   unfolding answered_lines lines_from
   none_answered = take-nil {A = List ℕ} (last_number - n)
 
-  after_none : after long n [] ≡ stage_at n
+  pub after_none : after long n [] ≡ stage_at n
   unfolding rest_behind
   after_none =
       stage_of

@@ -1,0 +1,2 @@
+-- Laws of the program.
+pub mod Input  -- a turn, the whole input

@@ -1,0 +1,1 @@
+pub mod Laws  -- the laws that the proofs of this crate cite

@@ -1,0 +1,2 @@
+-- The program in definitions.
+pub mod Input  -- what is read, answered and handed on

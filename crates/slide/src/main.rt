@@ -1,0 +1,93 @@
+// The program `slide` of document 02, (e): requested dates from standard input, one a line; to standard output, for each line, the
+// kept due date and the calendar days that it slid. It reads and writes; what the bytes mean, what is answered to them and how
+// that is written is in crates/desk, proved.
+#![tactic(auto)]
+
+ghost use Rattle.std.specs.Prelude.{◌≡◌, ◌&&◌, ◌*◌, ◌≤◌, ◌<◌, leb, ltb, length, IfOk};
+ghost use Rattle.report.specs.Layout.{last_number};
+ghost use Rattle.desk.specs.Slide.{slide_line, slide_answer};
+ghost use Rattle.slide.specs.Input.{Given, Turned, InputTaken};
+
+use desk::Piece;
+use desk::slide::answer_text;
+use report::layout::LAST_NUMBER;
+use streams::{StreamFailed, read_from, write_to};
+
+// The bytes of the text, and of the buffer, which has room for an answer to each byte of the text.
+const TEXT: usize = 16_384;
+
+const OUT: usize = 344_064;
+
+// Answers the lines in the first `filled` bytes of the text.
+fn take_piece(p: Piece, filled: usize, text: &mut [u8], out: &mut [u8]) -> Piece
+    requires { Given filled text.old out.old }
+    ensures { Turned p filled text.old out.old result text.new out.new }
+{
+    answer_text(p.lines, filled, text, out).unwrap()
+}
+
+// Whether there is input past the last line that is answered.
+fn is_past(p: Piece) -> bool
+    ensures { result ≡ leb last_number p.lines && ltb 0 p.partial }
+{
+    (LAST_NUMBER <= p.lines) & (0 < p.partial)
+}
+
+// The whole input, piece by piece, until it ends, goes past the last line that is answered, or a stream fails. A proved loop
+// has to end, and nothing says that the input does: so the loop has a number of turns that no run uses up.
+#[tactic(auto, using(crate::proofs::Laws::Input::taken_none))]
+fn take_input(rt: HostRuntime, text: &mut [u8], out: &mut [u8]) -> Result<Piece, StreamFailed>
+    requires { (slide_line < length text.old) × (slide_answer * length text.old ≤ length out.old) }
+    ensures { IfOk result (λ p. InputTaken p.lines p.partial text.new) }
+{
+    let mut p = Piece {
+        lines: 0,
+        partial: 0,
+        written: 0,
+    };
+    for _ in 0..u64::MAX {
+        let got = read_from(
+            rt,
+            "slide: standard input",
+            &mut rt.stdin(),
+            text,
+            p.partial,
+        )?;
+        if got == 0 {
+            break;
+        }
+        p = take_piece(p, p.partial + got, text, out);
+        write_to(
+            rt,
+            "slide: standard output",
+            &mut rt.stdout(),
+            &out[..p.written],
+        )?;
+        if is_past(p) {
+            break;
+        }
+    }
+    Ok(p)
+}
+
+// Says what was not answered.
+fn say_left(rt: HostRuntime, p: Piece) {
+    if is_past(p) {
+        let _ = eprintln!(rt; "slide: lines past 999999 were not read");
+    } else if 0 < p.partial {
+        let _ = eprintln!(rt; "slide: the last line has no line end and was not answered");
+    }
+}
+
+// The whole run, by a text and a buffer for answers. Why a stream failed was said, and the run ends there.
+fn run(rt: HostRuntime, text: &mut [u8; TEXT], out: &mut [u8; OUT]) {
+    if let Ok(p) = take_input(rt, text, out) {
+        say_left(rt, p);
+    }
+}
+
+fn main(rt: HostRuntime) {
+    let mut text = [0u8; TEXT];
+    let mut out = [0u8; OUT];
+    run(rt, &mut text, &mut out);
+}
