@@ -1,8 +1,22 @@
--- What is promised of the answers. proofs/Laws/Pieces has the proofs. Document 02, (e). Assumes nothing.
-use Rattle.std.specs.Prelude.{◌≡◌, List, [], ◌∷◌, ◌++◌, ℕ, ◌+◌, ◌<◌, length}
+-- What is promised of the answers. proofs/Laws/Slide and Laws/Pieces have the proofs. Document 02, (e). Assumes nothing.
+use Rattle.std.specs.Prelude.{◌≡◌, List, [], ◌∷◌, ◌++◌, ℕ, ◌+◌, ◌<◌, length, take, drop, Some, Result}
 use Rattle.std.specs.List.{concat}
+use Rattle.calendar.specs.declared.Kept.{Kept}
+use Rattle.refusals.specs.Refusals.{answer_number}
+use Rattle.refusals.specs.declared.Refusal.{Refusal}
+use Rattle.digits.specs.Field.{read_field}
 use Rattle.desk.specs.Lines.{answered_lines, kept_rest, output_of}
-use Rattle.desk.specs.Slide.{slide_line, slide_said}
+use Rattle.desk.specs.Slide.{slide_line, asked, shown, slide_said}
+
+-- ---- what is said to a line, whatever stands in it, is read back: no field cuts a number off
+
+pub record ReadBack (a : Result Kept Refusal) (said : List ℕ) : Type 0 where
+  pub answer : read_field (take 3 said) ≡ Some (answer_number a)
+  pub date : read_field (take 9 (drop 3 said)) ≡ Some (shown a).date
+  pub days : read_field (take 2 (drop 12 said)) ≡ Some (shown a).slid.0
+
+abbrev pub SaidWhole : Type 0
+SaidWhole = (line : List ℕ) → ReadBack (asked line) (slide_said line)
 
 -- ---- pieces: an input in any number of pieces, each put behind the kept rest of the one before, is answered as if it came at once: no
 -- line is lost and none is answered twice
