@@ -1,16 +1,14 @@
 -- A text by its lines, and what is written to them: `said` are the bytes that are said to a line, whatever the question. Each byte 10 ends a
 -- line, and nothing else does (crates/report/specs/Cut); no more than 999,999 are answered. Document 02, (e). Assumes nothing.
-use Rattle.std.specs.Prelude.{◌≡◌, Bool, cond, ◌&&◌, List, [], ◌∷◌, ◌++◌, ℕ, ◌+◌, ◌-◌, ◌/◌, ◌≤◌, leb, ltb, length, take, drop, Option, None, Result, Ok, Err}
+use Rattle.std.specs.Prelude.{◌≡◌, Bool, cond, ◌&&◌, List, [], ◌∷◌, ◌++◌, ℕ, ◌+◌, ◌-◌, ◌/◌, leb, length, take, drop, Result, Ok, Err}
 use Rattle.std.specs.List.{concat}
 use Rattle.refusals.specs.Refusals.{number_of, answer_number}
 use Rattle.refusals.specs.declared.Refusal.{Refusal}
 use Rattle.refusals.specs.declared.Refusal.TheVariants.{UnfitMemory}
 use Rattle.digits.specs.Field.{field_bytes, pasted}
 use Rattle.lines.specs.Line.{line_end}
-use Rattle.report.specs.Cut.{lines_from, end_from}
+use Rattle.report.specs.Cut.{lines_from}
 use Rattle.report.specs.Layout.{last_number}
-use Rattle.report.specs.declared.layout.Progress.{Progress}
-use Rattle.desk.specs.declared.answering.Answered.{Answered}
 use Rattle.desk.specs.declared.Piece.{Piece}
 
 -- ---- the lines of a text
@@ -23,41 +21,16 @@ answered_lines n text = take (last_number - n) (lines_from [] text)
 unfoldable pub rest_behind : ℕ → List ℕ → List ℕ
 rest_behind n text = drop (length (concat (answered_lines n text))) text
 
--- the end of the next one from a place on, where n were before
-unfoldable pub next_end : ℕ → List ℕ → ℕ → Option ℕ
-next_end n text at = cond (ltb n last_number) (end_from text at) None
-
 -- ---- what is written
 
 -- a line's number, what is said to it, and byte 10
 unfoldable pub numbered : ℕ → List ℕ → List ℕ
 numbered number said = field_bytes 6 number ++ said ++ (line_end ∷ [])
 
--- each answer has so many bytes
-pub record AllWide (wide : ℕ) (said : List ℕ → List ℕ) : Type 0 where
-  pub each : (number : ℕ) (line : List ℕ) → length (numbered number (said line)) ≡ wide
-
 -- to lines, where n were answered before
 unfoldable pub lines_output : (List ℕ → List ℕ) → ℕ → List (List ℕ) → List ℕ
 lines_output said n [] = []
 lines_output said n (line ∷ rest) = numbered (n + 1) (said line) ++ lines_output said (n + 1) rest
-
--- ---- a line, where p.lines were answered before
-
-pub record LineAnswered (said : List ℕ → List ℕ) (p : Progress) (line out : List ℕ) (r : Progress) (out' : List ℕ) : Type 0 where
-  pub lines_are : r.lines ≡ p.lines + 1
-  pub bytes : out' ≡ pasted p.written (numbered (p.lines + 1) (said line)) out
-  pub written : r.written ≡ p.written + length (numbered (p.lines + 1) (said line))
-
--- ---- the lines of a text, where n were answered before
-
-pub record LinesAnswered (said : List ℕ → List ℕ) (n : ℕ) (text out : List ℕ) (r : Answered) (out' : List ℕ) : Type 0 where
-  pub lines_are : r.progress.lines ≡ n + length (answered_lines n text)
-  pub bytes : out' ≡ pasted 0 (lines_output said n (answered_lines n text)) out
-  pub written : r.progress.written ≡ length (lines_output said n (answered_lines n text))
-  -- the rest begins at a place
-  pub rest : drop r.at text ≡ rest_behind n text
-  pub inside : r.at ≤ length text
 
 -- ---- the call for a piece of input: the first `filled` bytes of a text, where n lines were answered before. A sound line has `long` bytes
 -- with the one that ends it, and an answer `wide`

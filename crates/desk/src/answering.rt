@@ -1,8 +1,9 @@
-// The lines of a text answered one after the other, whatever the question: specs/Lines.
+// The lines of a text answered one after the other, whatever the question: specs/Lines, and specs/Answering.
 ghost use Rattle.std.specs.Prelude.{◌≡◌, ◌&&◌, ◌+◌, ◌-◌, ◌*◌, ◌/◌, ◌≤◌, leb, length, take, drop};
 ghost use Rattle.digits.specs.Field.{pasted};
 ghost use Rattle.report.specs.Layout.{last_number};
-ghost use Rattle.desk.specs.Lines.{next_end, numbered, AllWide, LineAnswered, LinesAnswered, PieceAnswered};
+ghost use Rattle.desk.specs.Lines.{numbered, PieceAnswered};
+ghost use Rattle.desk.specs.Answering.{next_end, AllWide, LineAnswered, LinesAnswered};
 
 use crate::Piece;
 use crate::question::Question;
@@ -47,7 +48,7 @@ fn end_line<Q: Question>(p: Progress, line: &[u8], out: &mut [u8]) -> Progress
 }
 
 // The end of the next line that is answered, from a place on, where so many were before.
-#[tactic(auto, unfolding(crate::specs::Lines::next_end))]
+#[tactic(auto, unfolding(crate::specs::Answering::next_end))]
 fn next_end(lines: u64, text: &[u8], at: usize) -> Option<usize>
     ensures { result ≡ next_end lines text.now at }
 {

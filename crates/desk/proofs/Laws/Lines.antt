@@ -1,4 +1,4 @@
--- Laws of specs/Lines, for the functions of src/answering.rt in their order. To cite: `AnsweredTo` with `answered_start`, `answered_next`,
+-- Laws of specs/Lines and specs/Answering, for the functions of src/answering.rt in their order. To cite: `AnsweredTo` with `answered_start`, `answered_next`,
 -- `answered_last`. Assumes nothing.
 use Rattle.std.specs.List.{copy_within, concat}
 use Rattle.std.proofs.Common.{Some, None}
@@ -22,7 +22,8 @@ use Rattle.report.specs.Layout.{last_number}
 use Rattle.report.specs.declared.layout.Progress.{Progress}
 use Rattle.report.proofs.Laws.Cut.{FirstEnd, end_from_at, end_from_none}
 use Rattle.report.proofs.Laws.Lines.{lines_first, lines_none, rest_endless, answered_first, answered_none}
-use Rattle.desk.specs.Lines.{answered_lines, rest_behind, next_end, numbered, AllWide, lines_output, LineAnswered, LinesAnswered, piece_fits}
+use Rattle.desk.specs.Lines.{answered_lines, rest_behind, numbered, lines_output, piece_fits}
+use Rattle.desk.specs.Answering.{next_end, AllWide, LineAnswered, LinesAnswered}
 
 -- ---- an answer
 
@@ -162,7 +163,8 @@ module _ (wide : ℕ) (said : List ℕ → List ℕ) (n : ℕ) (text out : List 
       answered_next line next r same a =
           let more = numbered (p.lines + 1) (said line) in
           let left = answered_lines (p.lines + 1) (drop (k + 1) text) in
-          let q : answered_lines p.lines (drop at text) ≡ line ∷ left = next_answered p.lines text at k e.first e.less ∙ ap (λ (x : List ℕ). x ∷ left) (sym same) in
+          let q : answered_lines p.lines (drop at text) ≡ line ∷ left =
+          next_answered p.lines text at k e.first e.less ∙ ap (λ (x : List ℕ). x ∷ left) (sym same) in
           let w : length more ≡ wide = all.each (p.lines + 1) line in
           record {
             so_far = t.so_far ++ more;

@@ -125,7 +125,9 @@ module _ (n : ℕ) (x : List ℕ) where
         ∙ ap (drop (length (concat more))) (drop-append-le (length (concat answered)) x y (front_short (last_number - n) x))
 
 -- what is written to lines behind others
-output_append : (said : List ℕ → List ℕ) (ls ms : List (List ℕ)) (n : ℕ) → lines_output said n (ls ++ ms) ≡ lines_output said n ls ++ lines_output said (n + length ls) ms
+output_append :
+    (said : List ℕ → List ℕ) (ls ms : List (List ℕ)) (n : ℕ)
+    → lines_output said n (ls ++ ms) ≡ lines_output said n ls ++ lines_output said (n + length ls) ms
 unfolding lines_output
 output_append said [] ms n = ap (λ (k : ℕ). lines_output said k ms) (sym (add-zero n))
 output_append said (l ∷ ls) ms n =
@@ -141,7 +143,9 @@ module _ (long : ℕ) (said : List ℕ → List ℕ) (alike : LongAlike long sai
   record Alike (n m : ℕ) (p q y : List ℕ) : Type 0 where
     count : length (take m (lines_from p y)) ≡ length (take m (lines_from q y))
     bytes : lines_output said n (take m (lines_from p y)) ≡ lines_output said n (take m (lines_from q y))
-    kept : take long (drop (length (concat (take m (lines_from p y)))) (p ++ y)) ≡ take long (drop (length (concat (take m (lines_from q y)))) (q ++ y))
+    kept :
+        take long (drop (length (concat (take m (lines_from p y)))) (p ++ y))
+        ≡ take long (drop (length (concat (take m (lines_from q y)))) (q ++ y))
 
   behind_line : (l c y : List ℕ) → drop (length (l ++ c)) (l ++ y) ≡ drop (length c) y
   behind_line l c y = ap (λ (k : ℕ). drop k (l ++ y)) (length-append l c) ∙ drop-append-add l y (length c)
@@ -222,7 +226,9 @@ module _ (long : ℕ) (said : List ℕ → List ℕ) (alike : LongAlike long sai
         let k = so_many n x in
         let a = alike_by y r clipped k (last_number - k) (fronts h) in
         let whole : lines_from [] (r ++ y) ≡ lines_from r y = lines_partial r [] y (rest_line n x e) in
-        let part : lines_from [] (clipped ++ y) ≡ lines_from clipped y = lines_partial clipped [] y (λ j l q. rest_line n x e j (omega (arith, length-take long r)) (sym (get_or-take long r j 0 (omega (arith, length-take long r))) ∙ q)) in
+        let line : Endless clipped =
+        λ j l q. let m = length-take long r in rest_line n x e j (omega arith) (sym (get_or-take long r j 0 (omega arith)) ∙ q) in
+        let part : lines_from [] (clipped ++ y) ≡ lines_from clipped y = lines_partial clipped [] y line in
         record {
           count = rw (whole, part) a.count;
           bytes = rw (whole, part) a.bytes;
@@ -251,6 +257,9 @@ module _ (long : ℕ) (said : List ℕ → List ℕ) (alike : LongAlike long sai
 
 -- ---- two pieces
 
+pub stage_of : {k m : ℕ} {x y : List ℕ} → k ≡ m → x ≡ y → ◌≡◌ {A = Stage} (record { lines = k; rest = x }) (record { lines = m; rest = y })
+stage_of p q = cc
+
 abbrev pub after : ℕ → ℕ → List ℕ → Stage
 after long n x = take_piece long (stage_at n) x
 
@@ -259,9 +268,6 @@ pub record TwoAtOnce (long : ℕ) (said : List ℕ → List ℕ) (n : ℕ) (firs
   pub written : output_of said n (first ++ second) ≡ output_of said n first ++ piece_output said (after long n first) second
 
 module _ (long : ℕ) (said : List ℕ → List ℕ) (alike : LongAlike long said) (n : ℕ) where
-  pub stage_of : {k m : ℕ} {x y : List ℕ} → k ≡ m → x ≡ y → ◌≡◌ {A = Stage} (record { lines = k; rest = x }) (record { lines = m; rest = y })
-  stage_of p q = cc
-
   pub two_at_once : (first second : List ℕ) → TwoAtOnce long said n first second
   two_at_once first second =
       let x = answered_lines n first in
@@ -292,7 +298,9 @@ module _ (long : ℕ) (said : List ℕ → List ℕ) (alike : LongAlike long sai
       ∙ pieces_after more (x ++ piece)
       ∙ ap (after long n) (append_assoc x piece (concat more))
 
-  pieces_written : (pieces : List (List ℕ)) (x : List ℕ) → output_of said n x ++ pieces_output long said (after long n x) pieces ≡ output_of said n (x ++ concat pieces)
+  pieces_written :
+      (pieces : List (List ℕ)) (x : List ℕ)
+      → output_of said n x ++ pieces_output long said (after long n x) pieces ≡ output_of said n (x ++ concat pieces)
   unfolding pieces_output
   pieces_written [] x = append-nil (output_of said n x) ∙ ap (output_of said n) (sym (append-nil x))
   pieces_written (piece ∷ more) x =

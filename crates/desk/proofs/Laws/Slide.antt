@@ -21,7 +21,7 @@ use Rattle.refusals.specs.Refusals.{answer_number}
 use Rattle.refusals.specs.declared.Refusal.{Refusal}
 use Rattle.refusals.specs.declared.Refusal.TheVariants.{BadField}
 use Rattle.refusals.proofs.Laws.Refusals.{number_of_most}
-use Rattle.desk.specs.Lines.{AllWide}
+use Rattle.desk.specs.Answering.{AllWide}
 use Rattle.desk.specs.Slide.{slide, requested, slide_of, said_of, asked, shown, slide_said, slide_answer}
 use Rattle.desk.specs.Promises.{ReadBack, SaidWhole}
 use Rattle.desk.proofs.Laws.Lines.{length_numbered}
@@ -115,7 +115,10 @@ read_back a f =
     let m = length_signed_field 3 blank (answer_number a) in
     let n = length_signed_field 9 blank (shown a).date in
     record {
-      answer = ap (λ (l : List ℕ). read_field (take 3 l)) (append_assoc x y z) ∙ ap read_field (take_at x (y ++ z) 3 m) ∙ read_field_field_bytes 3 (answer_number a) (lit< tt) f.number;
+      answer =
+          ap (λ (l : List ℕ). read_field (take 3 l)) (append_assoc x y z)
+          ∙ ap read_field (take_at x (y ++ z) 3 m)
+          ∙ read_field_field_bytes 3 (answer_number a) (lit< tt) f.number;
       date =
           ap (λ (l : List ℕ). read_field (take 9 (drop 3 l))) (append_assoc x y z)
           ∙ ap (λ (l : List ℕ). read_field (take 9 l)) (drop_at x (y ++ z) 3 m)

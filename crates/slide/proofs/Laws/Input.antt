@@ -9,7 +9,7 @@ use Rattle.desk.specs.declared.Piece.{Piece}
 use Rattle.desk.specs.Lines.{answered_lines, rest_behind, kept_rest}
 use Rattle.desk.specs.Slide.{slide_line, slide_said}
 use Rattle.desk.specs.Promises.{Stage, take_piece}
-use Rattle.desk.proofs.Laws.Pieces.{after_none, two_at_once, slide_long_alike}
+use Rattle.desk.proofs.Laws.Pieces.{stage_of, after, after_none, two_at_once, slide_long_alike}
 use Rattle.slide.specs.Input.{Turned, InputTaken}
 
 -- ---- the whole input
@@ -18,14 +18,10 @@ pub taken_none : (text : List ℕ) → slide_line < length text → InputTaken 0
 taken_none text h =
     record { input = []; stage_is = sym (after_none slide_line slide_said slide_long_alike 0); room = omega (arith, h) }
 
-stage_of : {k m : ℕ} {x y : List ℕ} → k ≡ m → x ≡ y → ◌≡◌ {A = Stage} (record { lines = k; rest = x }) (record { lines = m; rest = y })
-stage_of p q = cc
-
-abbrev stage_by : ℕ → List ℕ → Stage
-stage_by n input = record { lines = n + length (answered_lines n input); rest = kept_rest slide_line n input }
-
 -- a read behind the rest, and its turn
-module _ (p : Piece) (text : List ℕ) (a : InputTaken p.lines p.partial text) (got : ℕ) (text' : List ℕ) (front : take p.partial text' ≡ take p.partial text) where
+module _
+    (p : Piece) (text : List ℕ) (a : InputTaken p.lines p.partial text) (got : ℕ)
+    (text' : List ℕ) (front : take p.partial text' ≡ take p.partial text) where
   -- the bytes that were read
   abbrev bytes : List ℕ
   bytes = take got (drop p.partial text')
@@ -49,7 +45,7 @@ module _ (p : Piece) (text : List ℕ) (a : InputTaken p.lines p.partial text) (
         input = a.input ++ bytes;
         stage_is =
             stage_of lines_are kept_is
-            ∙ ap (λ (x : List ℕ). stage_by p.lines x) given_is
+            ∙ ap (λ (x : List ℕ). after slide_line p.lines x) given_is
             ∙ ap (λ (s : Stage). take_piece slide_line s bytes) a.stage_is
             ∙ sym (two_at_once slide_line slide_said slide_long_alike 0 a.input bytes).after_is;
         room = omega (arith, h, partial_is, length-take slide_line (rest_behind p.lines (take (p.partial + got) text')));

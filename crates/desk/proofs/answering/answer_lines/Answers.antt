@@ -13,7 +13,8 @@ end_line-progress-requires-clause-room g c =
 
 pub loop-end-preserved : goal.loop-end-preserved
 loop-end-preserved g c =
-    answered_next _ _ _ _ _ _ _ _ c.loop-end.invariant _ (next_end_at _ _ _ _ (sym c.next_end.ensures ∙ c.in-Some.is)) c.requires.wide _ _ _ refl c.end_line-progress.ensures
+    let e = next_end_at _ _ _ _ (sym c.next_end.ensures ∙ c.in-Some.is) in
+    answered_next _ _ _ _ _ _ _ _ c.loop-end.invariant _ e c.requires.wide _ _ _ refl c.end_line-progress.ensures
 
 pub returns : goal.returns
 returns g c = answered_last _ _ _ _ _ _ _ _ c.loop-end.invariant (sym c.next_end.ensures ∙ c.in_default.is)

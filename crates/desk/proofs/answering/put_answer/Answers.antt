@@ -10,7 +10,8 @@ pub overflow_sub-out : goal.overflow_sub-out
 overflow_sub-out g c = omega (arith, said_wide _ _ c.requires.wide c.args.line.now, c.ANSWER.ensures)
 
 pub bounds-out-at : goal.bounds-out-at
-bounds-out-at g c = omega (arith, said_wide _ _ c.requires.wide c.args.line.now, c.ANSWER.ensures, c.put.auto.out, c.put_said.auto.out, c.requires.room)
+bounds-out-at g c =
+    omega (arith, said_wide _ _ c.requires.wide c.args.line.now, c.ANSWER.ensures, c.put.auto.out, c.put_said.auto.out, c.requires.room)
 
 pub returns : goal.returns
 returns g c =
