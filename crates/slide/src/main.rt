@@ -3,14 +3,14 @@
 // that is written is in crates/desk, proved.
 #![tactic(auto)]
 
-ghost use Rattle.std.specs.Prelude.{◌≡◌, ◌&&◌, ◌*◌, ◌≤◌, ◌<◌, leb, ltb, length, IfOk};
-ghost use Rattle.report.specs.Layout.{last_number};
+ghost use Rattle.std.specs.Prelude.{◌≡◌, ◌*◌, ◌≤◌, ◌<◌, length, IfOk};
 ghost use Rattle.desk.specs.Slide.{slide_line, slide_answer};
-ghost use Rattle.slide.specs.Input.{Given, Turned, InputTaken};
+ghost use Rattle.slide.specs.Input.{is_past, Given, Turned, InputAnswered};
 
 use desk::Piece;
 use desk::slide::answer_text;
 use report::layout::LAST_NUMBER;
+use std::io::{Read, Write};
 use streams::{StreamFailed, read_from, write_to};
 
 // The bytes of the text, and of the buffer, which has room for an answer to each byte of the text.
@@ -28,7 +28,7 @@ fn take_piece(p: Piece, filled: usize, text: &mut [u8], out: &mut [u8]) -> Piece
 
 // Whether there is input past the last line that is answered.
 fn is_past(p: Piece) -> bool
-    ensures { result ≡ leb last_number p.lines && ltb 0 p.partial }
+    ensures { result ≡ is_past p.lines p.partial }
 {
     (LAST_NUMBER <= p.lines) & (0 < p.partial)
 }
@@ -36,9 +36,15 @@ fn is_past(p: Piece) -> bool
 // The whole input, piece by piece, until it ends, goes past the last line that is answered, or a stream fails. A proved loop
 // has to end, and nothing says that the input does: so the loop has a number of turns that no run uses up.
 #[tactic(auto, using(crate::proofs::Laws::Input::taken_none))]
-fn take_input(rt: HostRuntime, text: &mut [u8], out: &mut [u8]) -> Result<Piece, StreamFailed>
+fn take_input<R: Read, W: Write>(
+    rt: HostRuntime,
+    input: &mut R,
+    output: &mut W,
+    text: &mut [u8],
+    out: &mut [u8],
+) -> Result<Piece, StreamFailed>
     requires { (slide_line < length text.old) × (slide_answer * length text.old ≤ length out.old) }
-    ensures { IfOk result (λ p. InputTaken p.lines p.partial text.new) }
+    ensures { IfOk result (λ p. InputAnswered (R.remaining input.old) (R.remaining input.new) (W.contents output.old) (W.contents output.new) p) }
 {
     let mut p = Piece {
         lines: 0,
@@ -46,28 +52,17 @@ fn take_input(rt: HostRuntime, text: &mut [u8], out: &mut [u8]) -> Result<Piece,
         written: 0,
     };
     for _ in 0..u64::MAX {
-        let got = read_from(
-            rt,
-            "slide: standard input",
-            &mut rt.stdin(),
-            text,
-            p.partial,
-        )?;
+        let got = read_from(rt, "slide: standard input", input, text, p.partial)?;
         if got == 0 {
-            break;
+            return Ok(p);
         }
         p = take_piece(p, p.partial + got, text, out);
-        write_to(
-            rt,
-            "slide: standard output",
-            &mut rt.stdout(),
-            &out[..p.written],
-        )?;
+        write_to(rt, "slide: standard output", output, &out[..p.written])?;
         if is_past(p) {
-            break;
+            return Ok(p);
         }
     }
-    Ok(p)
+    Err(StreamFailed)
 }
 
 // Says what was not answered.
@@ -81,7 +76,7 @@ fn say_left(rt: HostRuntime, p: Piece) {
 
 // The whole run, by a text and a buffer for answers. Why a stream failed was said, and the run ends there.
 fn run(rt: HostRuntime, text: &mut [u8; TEXT], out: &mut [u8; OUT]) {
-    if let Ok(p) = take_input(rt, text, out) {
+    if let Ok(p) = take_input(rt, &mut rt.stdin(), &mut rt.stdout(), text, out) {
         say_left(rt, p);
     }
 }

@@ -323,7 +323,7 @@ module _ (long : ℕ) (said : List ℕ → List ℕ) (alike : LongAlike long sai
       (ap (λ (ls : List (List ℕ)). n + length ls) none_answered ∙ add-zero n)
       (ap (λ (ls : List (List ℕ)). take long (drop (length (concat ls)) [])) none_answered ∙ take-nil {A = ℕ} long)
 
-  written_none : output_of said n [] ≡ []
+  pub written_none : output_of said n [] ≡ []
   unfolding lines_output
   written_none = ap (lines_output said n) none_answered
 
