@@ -1,5 +1,5 @@
--- Laws of specs/Lines and specs/Answering, for the functions of src/answering.rt in their order. To cite: `AnsweredTo` with `answered_start`, `answered_next`,
--- `answered_last`. Assumes nothing.
+-- Laws of specs/Lines and specs/Answering, for the functions of src/answering.rt in their order. To cite: `AnsweredTo` with
+-- `answered_start`, `answered_next`, `answered_last`; `length_numbered`. Assumes nothing.
 use Rattle.std.specs.List.{copy_within, concat}
 use Rattle.std.proofs.Common.{Some, None}
 use mathlib.Core.Path.{◌≡◌, refl, sym, ap, ◌∙◌}

@@ -12,7 +12,8 @@ use native.Mathlib.Nat.{add-zero, add_assoc}
 use borrow.Author.Tests.{ne_eqb, leb-true, leb-false, ltb-true}
 use lib.Dec.{eqb, leb, ltb}
 use lib.ListN.{length, take, drop, length-append, length-take, take-append-drop}
-use lib.Seq.{take-nil, take_all, take-append-le, take-append-add, take-take, drop-append_seam, drop-append-add, length-take-le, drop-drop, get_or-take}
+use lib.Seq.{take-nil, take_all, take-append-le, take-append-add, take-take, length-take-le, get_or-take}
+use lib.Seq.{drop-append_seam, drop-append-add, drop-drop}
 use Rattle.common.proofs.Tests.{either}
 use Rattle.refusals.specs.declared.Refusal.{Refusal}
 use Rattle.refusals.specs.declared.Refusal.TheVariants.{BadLine}

@@ -87,7 +87,10 @@ rest_endless text at none j h q =
 -- ---- the lines that are answered, where n were before: no more than 999,999
 
 -- the first line is answered while fewer than 999,999 were
-pub answered_first : (n : ℕ) (line : List ℕ) (rest : List (List ℕ)) → ltb n last_number ≡ true → take (last_number - n) (line ∷ rest) ≡ line ∷ take (last_number - (n + 1)) rest
+pub answered_first :
+    (n : ℕ) (line : List ℕ) (rest : List (List ℕ))
+    → ltb n last_number ≡ true
+    → take (last_number - n) (line ∷ rest) ≡ line ∷ take (last_number - (n + 1)) rest
 answered_first n line rest e = rw (one_more n last_number (ltb-true n last_number e))
 
 pub answered_none : (n : ℕ) (rest : List (List ℕ)) → ltb n last_number ≡ false → take (last_number - n) rest ≡ []

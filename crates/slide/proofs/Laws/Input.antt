@@ -93,7 +93,9 @@ module _
         ap (λ (n : ℕ). take n text'') partial_is ∙ ap (take (length kept)) t.text_is ∙ take-append_seam kept (drop (0 + length kept) text') in
         let more = output_of slide_said p.lines given in
         let written_is : take r.written out' ≡ more =
-        ap (λ (n : ℕ). take n out') (ap (λ (x : Piece). x.written) t.piece_is) ∙ ap (take (length more)) t.out_is ∙ take-append_seam more (drop (0 + length more) out) in
+        ap (λ (n : ℕ). take n out') (ap (λ (x : Piece). x.written) t.piece_is)
+        ∙ ap (take (length more)) t.out_is
+        ∙ take-append_seam more (drop (0 + length more) out) in
         let behind : more ≡ piece_output slide_said (after slide_line 0 a.input) bytes =
         ap (output_of slide_said p.lines) given_is ∙ ap (λ (s : Stage). piece_output slide_said s bytes) a.stage_is in
         record {
@@ -101,7 +103,8 @@ module _
           read = Consumes-trans left now next a.input bytes a.read read;
           written =
               subst (Appends held grown) (sym two.written)
-              (Appends-trans held so_far grown (output_of slide_said 0 a.input) _ a.written (subst (Appends so_far grown) (written_is ∙ behind) appended));
+              (Appends-trans held so_far grown (output_of slide_said 0 a.input) _ a.written
+              (subst (Appends so_far grown) (written_is ∙ behind) appended));
           stage_is =
               stage_of lines_are kept_is
               ∙ ap (λ (x : List ℕ). after slide_line p.lines x) given_is
