@@ -2,11 +2,11 @@
 -- it: what a call leaves stands in specs/Lines alone. Assumes nothing.
 use Rattle.std.specs.Prelude.{◌≡◌, cond, List, ℕ, ◌+◌, ◌≤◌, ltb, length, drop, Option, None}
 use Rattle.digits.specs.Field.{pasted}
-use Rattle.report.specs.Cut.{end_from}
+use Rattle.report.specs.Cut.{end_from, answered_lines}
 use Rattle.report.specs.Layout.{last_number}
 use Rattle.report.specs.declared.layout.Progress.{Progress}
 use Rattle.desk.specs.declared.answering.Answered.{Answered}
-use Rattle.desk.specs.Lines.{answered_lines, rest_behind, numbered, lines_output}
+use Rattle.desk.specs.Lines.{rest_behind, numbered, lines_output}
 
 -- the end of the next line that is answered, from a place on, where n were before
 unfoldable pub next_end : ℕ → List ℕ → ℕ → Option ℕ

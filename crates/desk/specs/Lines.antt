@@ -1,23 +1,18 @@
 -- A text by its lines, and what is written to them: `said` are the bytes that are said to a line, whatever the question. Each byte 10 ends a
 -- line, and nothing else does (crates/report/specs/Cut); no more than 999,999 are answered. Document 02, (e). Assumes nothing.
-use Rattle.std.specs.Prelude.{◌≡◌, Bool, cond, ◌&&◌, List, [], ◌∷◌, ◌++◌, ℕ, ◌+◌, ◌-◌, ◌/◌, leb, length, take, drop, Result, Ok, Err}
+use Rattle.std.specs.Prelude.{◌≡◌, Bool, cond, ◌&&◌, List, [], ◌∷◌, ◌++◌, ℕ, ◌+◌, ◌/◌, leb, length, take, drop, Result, Ok, Err}
 use Rattle.std.specs.List.{concat}
 use Rattle.refusals.specs.Refusals.{number_of, answer_number}
 use Rattle.refusals.specs.declared.Refusal.{Refusal}
 use Rattle.refusals.specs.declared.Refusal.TheVariants.{UnfitMemory}
 use Rattle.digits.specs.Field.{field_bytes, pasted}
 use Rattle.lines.specs.Line.{line_end}
-use Rattle.report.specs.Cut.{lines_from}
-use Rattle.report.specs.Layout.{last_number}
+use Rattle.report.specs.Cut.{answered_lines}
 use Rattle.desk.specs.declared.Piece.{Piece}
 
 -- ---- the lines of a text
 
--- those that are answered, where n were before
-unfoldable pub answered_lines : ℕ → List ℕ → List (List ℕ)
-answered_lines n text = take (last_number - n) (lines_from [] text)
-
--- the bytes behind them: a line that has not ended, or whatever stands behind the last that is answered
+-- the bytes behind the lines that are answered: a line that has not ended, or whatever stands behind the last that is answered
 unfoldable pub rest_behind : ℕ → List ℕ → List ℕ
 rest_behind n text = drop (length (concat (answered_lines n text))) text
 

@@ -5,7 +5,8 @@ use Rattle.calendar.specs.declared.Kept.{Kept}
 use Rattle.refusals.specs.Refusals.{answer_number}
 use Rattle.refusals.specs.declared.Refusal.{Refusal}
 use Rattle.digits.specs.Field.{read_field}
-use Rattle.desk.specs.Lines.{answered_lines, kept_rest, output_of}
+use Rattle.report.specs.Cut.{answered_lines}
+use Rattle.desk.specs.Lines.{kept_rest, output_of}
 use Rattle.desk.specs.Slide.{slide_line, asked, shown, slide_said}
 
 -- ---- what is said to a line, whatever stands in it, is read back: no field cuts a number off

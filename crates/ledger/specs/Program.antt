@@ -7,10 +7,11 @@ use Rattle.tables.specs.Ledger.{Ledger}
 use Rattle.fitness.specs.Fitness.{sizes_fit, fit}
 use Rattle.opening.specs.Opening.{opened}
 use Rattle.model.specs.Journal.{Journal, journal}
+use Rattle.report.specs.Cut.{answered_lines}
 use Rattle.report.specs.Layout.{answer_length}
 use Rattle.listing.specs.Listing.{listing_room}
 use Rattle.run.specs.Run.{run_at, take_text, end_bytes, end_output, positions_output, journal_output}
-use Rattle.run.specs.Lines.{answered_lines, answers_of, history_of}
+use Rattle.run.specs.Lines.{answers_of, history_of}
 
 -- ---- the start
 

@@ -1,10 +1,9 @@
 -- The lines past the last that is answered. Document 01, "The text line": the program reads at most 999,999 lines. `PastHolds` says the
 -- same by the lines that there are and those that the run answers; proofs/Laws/Past has the proof. Assumes nothing.
 use Rattle.std.specs.Prelude.{◌≡◌, Bool, cond, ◌&&◌, ◌||◌, List, [], ℕ, ◌+◌, ◌-◌, ◌≤◌, ◌<◌, leb, ltb, length, drop}
-use Rattle.report.specs.Cut.{lines_from}
+use Rattle.report.specs.Cut.{lines_from, answered_lines}
 use Rattle.report.specs.Layout.{last_number}
 use Rattle.run.specs.Run.{end_lines}
-use Rattle.run.specs.Lines.{answered_lines}
 
 -- how many lines of a text are not answered, where n were answered before: `answered_lines` of crates/run takes the others
 abbrev pub lines_past : ℕ → List ℕ → ℕ

@@ -1,8 +1,9 @@
 -- Where a line of the input ends, and the lines of a text. Document 01, "The text line": at a byte 10 and nowhere else. Bytes are numbers.
 -- To cite: proofs/Laws/Cut. Assumes nothing.
-use Rattle.std.specs.Prelude.{◌≡◌, ◌≢◌, Bool, true, false, cond, List, [], ◌∷◌, ◌++◌, ℕ, ◌-◌, ◌<◌, eqb, length, get_or, Option, Some, None}
+use Rattle.std.specs.Prelude.{◌≡◌, ◌≢◌, Bool, true, false, cond, List, [], ◌∷◌, ◌++◌, ℕ, ◌-◌, ◌<◌, eqb, length, take, get_or, Option, Some, None}
 use Rattle.common.specs.Walk.{first_from}
 use Rattle.lines.specs.Line.{line_end}
+use Rattle.report.specs.Layout.{last_number}
 
 abbrev pub ends_at : List ℕ → ℕ → Bool
 ends_at text i = eqb (get_or text i 0) line_end
@@ -32,6 +33,10 @@ lines_from partial (b ∷ bs) =
     cond (eqb b line_end)
     ((partial ++ (b ∷ [])) ∷ lines_from [] bs)
     (lines_from (partial ++ (b ∷ [])) bs)
+
+-- those that are answered, where n were before: no more than 999,999 are
+unfoldable pub answered_lines : ℕ → List ℕ → List (List ℕ)
+answered_lines n text = take (last_number - n) (lines_from [] text)
 
 -- the bytes behind the last
 unfoldable pub last_from : List ℕ → List ℕ → List ℕ

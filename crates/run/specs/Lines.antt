@@ -1,18 +1,13 @@
 -- A text by its lines, and what is answered to them: the run said once more, with no byte of it kept back. Document 01, "The text
 -- line" and "The journal". Assumes nothing.
-use Rattle.std.specs.Prelude.{List, [], ◌∷◌, ◌++◌, ℕ, ◌+◌, ◌-◌, eqb, take, Result, Ok, Err}
+use Rattle.std.specs.Prelude.{List, [], ◌∷◌, ◌++◌, ℕ, ◌+◌, eqb, Result, Ok, Err}
 use Rattle.events.specs.declared.Event.{Event}
 use Rattle.lines.specs.Line.{read_line}
 use Rattle.tables.specs.Ledger.{Ledger}
 use Rattle.model.specs.Step.{answer_number, Entry, entry}
-use Rattle.report.specs.Cut.{lines_from}
-use Rattle.report.specs.Layout.{last_number, answer_line}
+use Rattle.report.specs.Layout.{answer_line}
 use Rattle.run.specs.Run.{answer_to, after_line}
 use Rattle.refusals.specs.declared.Refusal.{Refusal}
-
--- the lines that are answered, where n were before
-unfoldable pub answered_lines : ℕ → List ℕ → List (List ℕ)
-answered_lines n text = take (last_number - n) (lines_from [] text)
 
 -- the events that the reader takes
 abbrev pub event_in : Result Event Refusal → List Event

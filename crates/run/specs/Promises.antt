@@ -6,10 +6,10 @@ use Rattle.opening.specs.Opening.{opened}
 use Rattle.model.specs.Step.{run, history}
 use Rattle.model.specs.Journal.{journal}
 use Rattle.model.specs.Promises.{Kept}
-use Rattle.report.specs.Cut.{last_piece}
+use Rattle.report.specs.Cut.{last_piece, answered_lines}
 use Rattle.report.specs.Layout.{last_number, answer_line}
 use Rattle.run.specs.Run.{Run, run_at, take_text, text_output, end_lines, end_text, end_output, positions_output, journal_output}
-use Rattle.run.specs.Lines.{answered_lines, events_of, answers_of, answers_output, history_of}
+use Rattle.run.specs.Lines.{events_of, answers_of, answers_output, history_of}
 
 -- ---- a text, from any ledger on: for each line, in order, its number and its answer is written; the ledger is the one after the
 -- events, and the history has as accepted those to which 0 is written

@@ -2,9 +2,10 @@
 use Rattle.std.specs.Prelude.{◌≡◌, Bool, false, ◌&&◌, List, ℕ, ◌*◌, ◌≤◌, ◌<◌, leb, ltb, length, take, Option}
 use Rattle.std.specs.Io.KnownBytes.{Consumes, Appends, IsAtEnd}
 use Rattle.digits.specs.Field.{pasted}
+use Rattle.report.specs.Cut.{answered_lines}
 use Rattle.report.specs.Layout.{last_number}
 use Rattle.desk.specs.declared.Piece.{Piece}
-use Rattle.desk.specs.Lines.{answered_lines, kept_rest, output_of, piece_of}
+use Rattle.desk.specs.Lines.{kept_rest, output_of, piece_of}
 use Rattle.desk.specs.Slide.{slide_line, slide_answer, slide_said}
 use Rattle.desk.specs.Promises.{Stage, stage_at, take_piece}
 

@@ -17,12 +17,12 @@ use Rattle.digits.specs.Field.{blank, pasted, put_at}
 use Rattle.digits.proofs.Laws.Field.{length_signed_field}
 use Rattle.digits.proofs.Laws.Buffer.{pasted_next, written_none, written_field, written_more, written_inside, written_byte}
 use Rattle.lines.specs.Line.{line_end}
-use Rattle.report.specs.Cut.{lines_from}
+use Rattle.report.specs.Cut.{lines_from, answered_lines}
 use Rattle.report.specs.Layout.{last_number}
 use Rattle.report.specs.declared.layout.Progress.{Progress}
 use Rattle.report.proofs.Laws.Cut.{FirstEnd, end_from_at, end_from_none}
 use Rattle.report.proofs.Laws.Lines.{lines_first, lines_none, rest_endless, answered_first, answered_none}
-use Rattle.desk.specs.Lines.{answered_lines, rest_behind, numbered, lines_output, piece_fits}
+use Rattle.desk.specs.Lines.{rest_behind, numbered, lines_output, piece_fits}
 use Rattle.desk.specs.Answering.{next_end, AllWide, LineAnswered, LinesAnswered}
 
 -- ---- an answer

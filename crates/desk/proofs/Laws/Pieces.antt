@@ -18,11 +18,11 @@ use Rattle.common.proofs.Tests.{either}
 use Rattle.refusals.specs.declared.Refusal.{Refusal}
 use Rattle.refusals.specs.declared.Refusal.TheVariants.{BadLine}
 use Rattle.lines.specs.Line.{line_end}
-use Rattle.report.specs.Cut.{lines_from, last_from}
+use Rattle.report.specs.Cut.{lines_from, last_from, answered_lines}
 use Rattle.report.specs.Layout.{last_number}
 use Rattle.report.proofs.Laws.Cut.{Endless}
 use Rattle.report.proofs.Laws.Lines.{last_endless, lines_append, lines_partial, all_bytes, answered_none}
-use Rattle.desk.specs.Lines.{answered_lines, rest_behind, numbered, lines_output, kept_rest, output_of}
+use Rattle.desk.specs.Lines.{rest_behind, numbered, lines_output, kept_rest, output_of}
 use Rattle.desk.specs.Slide.{slide_line, requested, slide_of, said_of, slide_said}
 use Rattle.desk.specs.Promises.{Stage, stage_at, take_piece, piece_output, take_pieces, pieces_output, SameAtOnce, LongAlike, InPieces, SlideInPieces}
 

@@ -13,11 +13,10 @@ use lib.ListN.{length, take, drop, length-append}
 use lib.Seq.{take-add, drop-nil}
 use Rattle.digits.specs.Field.{pasted}
 use Rattle.tables.specs.Ledger.{Ledger}
-use Rattle.report.specs.Cut.{lines_from}
+use Rattle.report.specs.Cut.{lines_from, answered_lines}
 use Rattle.report.specs.Layout.{last_number}
 use Rattle.run.specs.Run.{Run, run_at, take_text, clipped_length}
 use Rattle.report.proofs.Laws.Cut.{Endless}
-use Rattle.run.specs.Lines.{answered_lines}
 use Rattle.run.proofs.Laws.Run.{partial_none, partial_text, piece_by_piece}
 use Rattle.run.proofs.Laws.Lines.{line_by_line}
 use Rattle.listing.specs.Past.{lines_past, goes_past}

@@ -22,11 +22,11 @@ use Rattle.refusals.specs.Refusals.{answer_number}
 use Rattle.opening.specs.Opening.{open_result, opening}
 use Rattle.model.proofs.Laws.Answers.{query_facts}
 use Rattle.model.proofs.Laws.Opened.{was_opened}
+use Rattle.report.specs.Cut.{answered_lines}
 use Rattle.report.specs.declared.layout.Progress.{Progress}
 use Rattle.report.specs.Layout.{answer_length, answer_line}
 use Rattle.listing.specs.Listing.{end_fits, ended, EndTaken, listing_room, listed, Listed}
 use Rattle.run.specs.Run.{Run, run_at, take_text, ends_line, end_bytes, end_output, positions_output}
-use Rattle.run.specs.Lines.{answered_lines}
 use Rattle.run.specs.Promises.{TextKept}
 use Rattle.run.proofs.Laws.Lines.{line_by_line}
 use Rattle.report.proofs.Laws.Layout.{length_answer_line}

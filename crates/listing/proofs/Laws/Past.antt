@@ -14,9 +14,8 @@ use borrow.Author.Tests.{ne_eqb}
 use lib.Dec.{eqb, ltb}
 use lib.ListN.{length, take, drop, get_or, length-take, length-drop}
 use Rattle.lines.specs.Line.{line_end}
-use Rattle.report.specs.Cut.{lines_from}
+use Rattle.report.specs.Cut.{lines_from, answered_lines}
 use Rattle.report.specs.Layout.{last_number}
-use Rattle.run.specs.Lines.{answered_lines}
 use Rattle.report.proofs.Laws.Cut.{Endless}
 use Rattle.run.specs.Run.{end_lines}
 use Rattle.listing.specs.Past.{lines_past, goes_past, PastHolds}

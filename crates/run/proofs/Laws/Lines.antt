@@ -18,10 +18,10 @@ use Rattle.tables.specs.Ledger.{Ledger}
 use Rattle.model.proofs.Laws.Answers.{accepted_number}
 use Rattle.model.proofs.Laws.Batch.{run_both}
 use Rattle.model.specs.Step.{answer_number, answer, after, run, Entry, entry, history}
-use Rattle.report.specs.Cut.{lines_from, last_from}
+use Rattle.report.specs.Cut.{lines_from, last_from, answered_lines}
 use Rattle.report.specs.Layout.{last_number, answer_line}
 use Rattle.run.specs.Run.{Run, run_at, clipped_length, clipped, answer_to, after_line, ended, line_output, take_byte, byte_output, take_text, text_output}
-use Rattle.run.specs.Lines.{answered_lines, event_in, events_of, answers_of, answers_output, entry_in, history_of}
+use Rattle.run.specs.Lines.{event_in, events_of, answers_of, answers_output, entry_in, history_of}
 use Rattle.run.specs.Promises.{LineByLine}
 use Rattle.report.proofs.Laws.Lines.{answered_first, answered_none}
 use Rattle.run.proofs.Laws.Run.{clipped_clipped, ended_clipped, line_output_clipped}

@@ -13,8 +13,9 @@ use Rattle.model.specs.Step.{in_query, figure_of, query, run, Entry, history}
 use Rattle.model.specs.Journal.{Journal, journal, figure_in}
 use Rattle.model.proofs.Laws.Answers.{query_facts}
 use Rattle.model.proofs.Laws.Theorem.{demand3}
+use Rattle.report.specs.Cut.{answered_lines}
 use Rattle.run.specs.Run.{positions_output, journal_output}
-use Rattle.run.specs.Lines.{answered_lines, events_of}
+use Rattle.run.specs.Lines.{events_of}
 use Rattle.run.specs.Promises.{ProgramKept}
 use Rattle.run.proofs.Laws.Lines.{line_by_line}
 use Rattle.run.proofs.Laws.Positions.{figures_output_same}

@@ -11,8 +11,9 @@ use native.Mathlib.Nat.{zero-add, le_of_lt}
 use native.Mathlib.Omega.{arith}
 use lib.ListN.{length, take, drop, length-take}
 use lib.Seq.{take-add, take-append_seam, length-take-le}
+use Rattle.report.specs.Cut.{answered_lines}
 use Rattle.desk.specs.declared.Piece.{Piece}
-use Rattle.desk.specs.Lines.{answered_lines, rest_behind, kept_rest, output_of}
+use Rattle.desk.specs.Lines.{rest_behind, kept_rest, output_of}
 use Rattle.desk.specs.Slide.{slide_line, slide_said}
 use Rattle.desk.specs.Promises.{Stage, take_piece, piece_output}
 use Rattle.desk.proofs.Laws.Pieces.{stage_of, after, after_none, written_none, two_at_once, slide_long_alike}
