@@ -68,7 +68,8 @@ uint64_t kalanhav_open(uint64_t *state, size_t state_length, int64_t *cents, siz
     uint64_t *creditors, size_t creditors_length, int64_t *creditor_positions, size_t creditor_positions_length,
     int64_t *debtor_positions, size_t debtor_positions_length, int64_t *bank_positions, size_t bank_positions_length);
 
-/* Gives one event to the ledger: its nine fields in their order. 2 to 17; 2 also for state, cents or event of another length. */
+/* Gives one event to the ledger: its nine fields in their order. 2 to 17; 2 also for state, cents or event of another length.
+   By how many days the due date of a collect slid is not given. */
 uint64_t kalanhav_take_event(uint64_t *state, size_t state_length, int64_t *cents, size_t cents_length,
     const uint64_t *event, size_t event_length, uint64_t *mandates, size_t mandates_length, uint64_t *collections,
     size_t collections_length, uint64_t *creditors, size_t creditors_length, int64_t *creditor_positions,

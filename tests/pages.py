@@ -63,7 +63,7 @@ def examples(ledger):
     return wrong + ["EVENTS.md: no example"] * (not found)
 
 
-PROGRAMS = zip((examples, slides), sys.argv[1:])
-WRONG = sorted(citations() + [words for holds, program in PROGRAMS for words in holds(program)])
+LEDGER, SLIDE = sys.argv[1:] or (None, None)
+WRONG = sorted(citations() + (examples(LEDGER) + slides(SLIDE) if LEDGER else []))
 print("\n".join(WRONG) or "pages: all that is cited is there")
 sys.exit(bool(WRONG))

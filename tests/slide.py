@@ -13,8 +13,9 @@ EXAMPLE = (ROOT / "crates/slide/stdin").read_bytes()
 ANSWERS = (ROOT / "crates/slide/stdout").read_bytes()
 DATES = list(ACCEPTED)
 SOUND = b" 20240329\n"
-# A piece of input ends here, whatever power of two up to this one its size is.
+# A piece of input ends here, whatever power of two up to this one its size is, where no line before it is cut.
 PIECE = 262_144
+FILLER = b"x" * 15 + b"\n"
 SHAPES = b" 0123456789"
 NEAR = SHAPES + b"+-./:;\t\v\f\r\0Oxe\x7f\x80\xa0\xb2\xff"
 RANDOM = random.Random(20240329)
@@ -164,10 +165,16 @@ def cut_inputs():
     return first(compare(part, functools.partial(agree, part)) for part in inputs)
 
 
+def filled(size):
+    """So many bytes of bad lines, each of which ends at a multiple of 16; but the last has what is over."""
+    count, over = divmod(size, len(FILLER))
+    return FILLER * (count - 1) + b"x" * over + FILLER
+
+
 @check("lines across the end of a piece")
 def across_pieces():
-    """A long bad line, so that the end of the piece falls on every byte of two lines."""
-    inputs = (b"x" * (PIECE - 1 - before) + b"\n" + lines(RANDOM.choices(DATES, k=4)) for before in range(21))
+    """Bad lines, so that the end of the piece falls on every byte of two sound lines behind them."""
+    inputs = (filled(PIECE - before) + lines(RANDOM.choices(DATES, k=4)) for before in range(21))
     return first(compare(data, functools.partial(agree, data)) for data in inputs)
 
 

@@ -7,7 +7,7 @@ use Rattle.calendar.specs.DayNumber.{calendar_days, day_number, date_at}
 use Rattle.calendar.specs.Easter.{easter_sunday}
 use Rattle.calendar.specs.Target.{weekday, business_day, is_open, First, first_open, open_after, Last, last_open_before, first_business_day, kept}
 use Rattle.calendar.specs.Periods.{days_after, period_end}
-use Rattle.calendar.specs.declared.Kept.{Kept}
+use Rattle.calendar.specs.declared.KeptDate.{KeptDate}
 use Rattle.calendar.specs.declared.Period.{Period}
 
 -- ---- dates and day numbers are two names of the same days, in the same order
@@ -91,7 +91,7 @@ abbrev pub slide_limit : ℕ
 slide_limit = 4
 
 pub record Slides (x : ℕ) : Type 0 where
-  pub answer : Kept
+  pub answer : KeptDate
   pub is : kept x ≡ Some answer
   pub first : first_business_day x ≡ Some answer.date
   -- that lies so many calendar days after x
@@ -103,8 +103,8 @@ pub record Slides (x : ℕ) : Type 0 where
 pub record SlideLimit : Type 0 where
   -- for every date of the calendar, 20000101 to 21991231
   pub every_date : (x : ℕ) → is_date x ≡ true → Slides x
-  -- the limit is reached in three ways: from Good Friday past Easter Monday, from 25 December where that is a Thursday, and from the
-  -- Saturday before where it is a Monday
+  -- the limit is reached: from a Good Friday past Easter Monday, from a 25 December that is a Thursday, and from the Saturday before one
+  -- that is a Monday
   pub at_easter : kept 20240329 ≡ Some (record { date = 20240402; slid = record { 0 = slide_limit } })
   pub from_thursday : kept 20251225 ≡ Some (record { date = 20251229; slid = record { 0 = slide_limit } })
   pub from_saturday : kept 20231223 ≡ Some (record { date = 20231227; slid = record { 0 = slide_limit } })

@@ -7,7 +7,7 @@ use Rattle.calendar.specs.Gregorian.{year, month_day, is_date}
 use Rattle.calendar.specs.DayNumber.{calendar_days, day_number, date_at, date_of}
 use Rattle.calendar.specs.Easter.{easter_sunday}
 use Rattle.calendar.specs.declared.CalendarDays.{CalendarDays}
-use Rattle.calendar.specs.declared.Kept.{Kept}
+use Rattle.calendar.specs.declared.KeptDate.{KeptDate}
 
 -- ---- business days
 
@@ -88,11 +88,11 @@ abbrev pub days_to : ℕ → ℕ → CalendarDays
 days_to x date = record { 0 = day_number date - day_number x }
 
 -- "The kept due date is now given together with the number of calendar days from the requested one" (document 02, (e))
-abbrev pub with_days : ℕ → Option ℕ → Option Kept
+abbrev pub with_days : ℕ → Option ℕ → Option KeptDate
 with_days x (Some date) = Some (record { date = date; slid = days_to x date })
 with_days x None = None
 
-unfoldable pub kept : ℕ → Option Kept
+unfoldable pub kept : ℕ → Option KeptDate
 kept x = with_days x (first_business_day x)
 
 unfoldable pub last_business_day_before : ℕ → Option ℕ

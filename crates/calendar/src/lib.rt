@@ -19,7 +19,7 @@ pub struct BusinessDays(pub u64);
 
 // The date to which a due date is kept, and the calendar days from the requested one to it.
 #[derive(Clone, Copy, Debug, PartialEq, Eq)]
-pub struct Kept {
+pub struct KeptDate {
     pub date: u64,
     pub slid: CalendarDays,
 }

@@ -5,7 +5,7 @@ ghost use Rattle.calendar.specs.Target.{business_day, is_open, first_open, last_
 
 use crate::easter::easter_place;
 use crate::gregorian::Day;
-use crate::{CalendarDays, Kept, gregorian};
+use crate::{CalendarDays, KeptDate, gregorian};
 
 // Whether a day is a business day. The table of Easter is read only for a day from two before 22 March to the one after 25 April.
 #[tactic(auto, using(crate::proofs::Laws::Rules::of_is_open_day))]
@@ -80,12 +80,12 @@ pub fn date_of_day(d: Option<u64>) -> Option<u64>
 
 // The first business day on or after a date, with the calendar days to it.
 #[tactic(auto, using(crate::proofs::Laws::Rules::of_kept))]
-pub fn kept(x: u64) -> Option<Kept>
+pub fn kept(x: u64) -> Option<KeptDate>
     ensures { result ≡ kept x }
 {
     let day = Day::of(x)?;
     let found = first_open_day(day);
-    Some(Kept {
+    Some(KeptDate {
         date: found.date(),
         slid: CalendarDays(found.number() - day.number()),
     })

@@ -6,7 +6,7 @@ ghost use Rattle.model.specs.Deadlines.{kept_with_days, timely, lapsed_for};
 use calendar::gregorian::Day;
 use calendar::periods::{days_after, is_after, months_after};
 use calendar::target::{first_open_day, kept, last_business_day_before};
-use calendar::{CalendarDays, Kept, Months};
+use calendar::{CalendarDays, KeptDate, Months};
 
 // The most calendar days from the event date to the requested date.
 const DAYS_AHEAD: u64 = 14;
@@ -18,14 +18,14 @@ const OPEN_WITHIN: u64 = 5;
 const LAPSE_MONTHS: u64 = 36;
 
 // What stands for the kept due where there is no date to be kept, as the rules have it: from a date in range there is one.
-const NO_DATE: Kept = Kept {
+const NO_DATE: KeptDate = KeptDate {
     date: 0,
     slid: CalendarDays(0),
 };
 
 // The first business day on or after the requested date, and the calendar days to it.
 #[tactic(auto, using(model::proofs::Laws::Handed::kept_both))]
-pub fn kept_due(requested: u64) -> Kept
+pub fn kept_due(requested: u64) -> KeptDate
     ensures { result ≡ kept_with_days requested }
 {
     kept(requested).unwrap_or(NO_DATE)

@@ -1,5 +1,5 @@
 -- A text by its lines, and what is written to them: `said` are the bytes that are said to a line, whatever the question. Each byte 10 ends a
--- line, and nothing else does (crates/report/specs/Cut); no more than 999,999 are answered. Document 02, (e). Assumes nothing.
+-- line, and nothing else does (crates/report/specs/Cut); no more than 999,999 are answered. Assumes nothing.
 use Rattle.std.specs.Prelude.{◌≡◌, Bool, cond, ◌&&◌, List, [], ◌∷◌, ◌++◌, ℕ, ◌+◌, ◌/◌, leb, length, take, drop, Result, Ok, Err}
 use Rattle.std.specs.List.{concat}
 use Rattle.refusals.specs.Refusals.{number_of, answer_number}

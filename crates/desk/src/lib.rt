@@ -1,4 +1,4 @@
-// What the counter asks, line by line: document 02, (e). A question is asked in each line of a text and answered in one; which
+// What the counter asks, line by line: docs/DECISIONS.md, 79. A question is asked in each line of a text and answered in one; which
 // question it is stands in a module of its own. Every public function answers for any input.
 #![tactic(auto)]
 

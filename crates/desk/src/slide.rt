@@ -4,14 +4,14 @@ ghost use Rattle.calendar.specs.Gregorian.{in_range};
 ghost use Rattle.refusals.specs.Refusals.{answer_number};
 ghost use Rattle.digits.specs.Field.{pasted};
 ghost use Rattle.desk.specs.Lines.{PieceAnswered};
-ghost use Rattle.desk.specs.Slide.{slide, is_question, requested, asked, shown, slide_said, slide_line, slide_answer};
+ghost use Rattle.desk.specs.Slide.{slide, is_question, requested, asked, shown, slide_said, slide_line_length, slide_answer_length};
 
 use crate::Piece;
 use crate::answering::answer_piece;
 use crate::question::Question;
 use calendar::gregorian::in_range;
 use calendar::target::kept;
-use calendar::{CalendarDays, Kept};
+use calendar::{CalendarDays, KeptDate};
 use digits::BLANK;
 use digits::reading::field;
 use digits::writing::put;
@@ -28,7 +28,7 @@ const ANSWER: usize = 21;
 
 // The kept due date of a requested one, and the calendar days that it slid; refusal 5 where the number is no date of the events' range.
 #[tactic(auto, unfolding(crate::specs::Slide::slide))]
-pub fn slide(requested: u64) -> Result<Kept, Refusal>
+pub fn slide(requested: u64) -> Result<KeptDate, Refusal>
     ensures answer { result ≡ slide requested }
     ensures number { answer_number result ≡ cond (in_range requested) 0 5 }
 {
@@ -49,35 +49,38 @@ fn requested(line: &[u8]) -> Result<u64, Refusal>
     ensures { result ≡ requested line.now }
 {
     ensure(is_question(line), Refusal::BadLine)?;
-    field(line, 0, COLUMNS).ok_or(Refusal::BadLine)
+    let Some(date) = field(line, 0, COLUMNS) else {
+        return Err(Refusal::BadLine);
+    };
+    Ok(date)
 }
 
 // What a line asks for, or its refusal.
-fn asked(line: &[u8]) -> Result<Kept, Refusal>
+fn asked(line: &[u8]) -> Result<KeptDate, Refusal>
     ensures { result ≡ asked line.now }
 {
     slide(requested(line)?)
 }
 
 // The date and the days that are shown of an answer.
-fn shown(answer: Result<Kept, Refusal>) -> Kept
+fn shown(answer: Result<KeptDate, Refusal>) -> KeptDate
     ensures { result ≡ shown answer }
 {
-    answer.unwrap_or(Kept {
+    answer.unwrap_or(KeptDate {
         date: 0,
         slid: CalendarDays(0),
     })
 }
 
 // The question for the kept due date.
-struct KeptDue;
+struct DueQuestion;
 
-impl Question for KeptDue {
-    ghost use Rattle.desk.specs.Slide.{slide_said, slide_line, slide_answer};
+impl Question for DueQuestion {
+    ghost use Rattle.desk.specs.Slide.{slide_said, slide_line_length, slide_answer_length};
 
-    ghost LINE = { slide_line };
+    ghost LINE = { slide_line_length };
 
-    ghost ANSWER = { slide_answer };
+    ghost ANSWER = { slide_answer_length };
 
     ghost said = { slide_said };
 
@@ -88,7 +91,7 @@ impl Question for KeptDue {
     #[tactic(auto, using(crate::proofs::Laws::Slide::said_written))]
     fn put_said(line: &[u8], out: &mut [u8], at: usize) {
         let answer = asked(line);
-        let Kept { date, slid } = shown(answer);
+        let KeptDate { date, slid } = shown(answer);
         put(out, at, 3, BLANK, answer_number(&answer));
         put(out, at + 3, 9, BLANK, date);
         put(out, at + 12, 2, BLANK, slid.0);
@@ -102,7 +105,7 @@ pub fn answer_text(
     text: &mut [u8],
     out: &mut [u8],
 ) -> Result<Piece, Refusal>
-    ensures { PieceAnswered slide_line slide_answer slide_said lines filled text.old out.old result text.new out.new }
+    ensures { PieceAnswered slide_line_length slide_answer_length slide_said lines filled text.old out.old result text.new out.new }
 {
-    answer_piece::<KeptDue>(lines, filled, text, out)
+    answer_piece::<DueQuestion>(lines, filled, text, out)
 }

@@ -5,7 +5,7 @@ use Rattle.report.specs.Cut.{lines_from, answered_lines}
 use Rattle.report.specs.Layout.{last_number}
 use Rattle.run.specs.Run.{end_lines}
 
--- how many lines of a text are not answered, where n were answered before: `answered_lines` of crates/run takes the others
+-- how many lines of a text are not answered, where n were answered before: `answered_lines` of crates/report takes the others
 abbrev pub lines_past : ℕ → List ℕ → ℕ
 lines_past n text = length (drop (last_number - n) (lines_from [] text))
 

@@ -5,7 +5,7 @@ use Rattle.calendar.specs.DayNumber.{day_number}
 use Rattle.calendar.specs.Target.{first_business_day, kept, last_business_day_before}
 use Rattle.calendar.specs.Periods.{days_after, months_after, period_end, is_after}
 use Rattle.calendar.specs.declared.CalendarDays.{CalendarDays}
-use Rattle.calendar.specs.declared.Kept.{Kept}
+use Rattle.calendar.specs.declared.KeptDate.{KeptDate}
 use Rattle.calendar.specs.declared.Period.{Period}
 use Rattle.model.specs.declared.Way.{Way}
 use Rattle.model.specs.declared.Way.TheVariants.{ByReturn, ByRefund, ByReversal}
@@ -23,14 +23,14 @@ unfoldable pub kept_due : ℕ → ℕ
 kept_due requested = date_found (first_business_day requested)
 
 -- "together with the number of calendar days from the requested one" (document 02, (e)); none where no date is kept
-abbrev pub days_found : Option Kept → CalendarDays
+abbrev pub days_found : Option KeptDate → CalendarDays
 days_found (Some k) = k.slid
 days_found None = record { 0 = 0 }
 
 unfoldable pub slid : ℕ → CalendarDays
 slid requested = days_found (kept requested)
 
-abbrev pub kept_with_days : ℕ → Kept
+abbrev pub kept_with_days : ℕ → KeptDate
 kept_with_days requested = record { date = kept_due requested; slid = slid requested }
 
 -- ---- when a collect comes, refusal 13

@@ -1,11 +1,12 @@
 -- Demand 3, "a single claim about the whole list, not one for each event" ("The journal"). `Demand3` is the statement;
 -- `Kept` has its parts, in the order in which they are demanded. proofs/Laws/Theorem has the proof.
 -- Then `AgreesFromAnyStart`, the claim about lists that start on any tables, and what is promised of one call: `Timing`, `EventValues`,
--- `CollectHandsOn`, `RefundsDated`, `MandatesNotAsked`, `UnusedRows`, and the answers in numbers. Assumes nothing.
-use Rattle.std.specs.Prelude.{◌≡◌, true, cond, ◌&&◌, List, [], ◌∷◌, ◌++◌, ℕ, zero, suc, ◌+◌, ◌*◌, ◌<◌, ◌≤◌, eqb, ℤ, pos, ◌+ℤ◌, length, get_or, Option, Some, Ok}
+-- `CollectHandsOn`, `OthersHandOnNothing`, `RefundsDated`, `MandatesNotAsked`, `UnusedRows`, and the answers in numbers. Assumes nothing.
+use Rattle.std.specs.Prelude.{◌≡◌, ◌≢◌, true, cond, ◌&&◌, List, [], ◌∷◌, ◌++◌, ℕ, zero, suc, ◌+◌, ◌*◌, ◌<◌, ◌≤◌, eqb, ℤ, pos, ◌+ℤ◌, length, get_or, Option, Some, Ok}
 use Rattle.calendar.specs.Gregorian.{in_range}
 use Rattle.calendar.specs.Target.{first_business_day, last_business_day_before}
 use Rattle.calendar.specs.Periods.{days_after, business_days_after, months_after, and_then}
+use Rattle.calendar.specs.Promises.{slide_limit}
 use Rattle.events.specs.declared.Event.{Event}
 use Rattle.common.specs.Tests.{among}
 use Rattle.positions.specs.Compensation.{half_up, half_even}
@@ -18,7 +19,7 @@ use Rattle.opening.specs.Opening.{opening, opened}
 use Rattle.tables.specs.declared.Standing.TheVariants.{Live}
 use Rattle.model.specs.declared.Treatment.{Treatment}
 use Rattle.model.specs.declared.Action.TheVariants.{Treat}
-use Rattle.model.specs.declared.HandedOn.TheVariants.{Slid}
+use Rattle.model.specs.declared.HandedOn.TheVariants.{Nothing, Slid}
 use Rattle.model.specs.declared.Authorisation.{Authorisation}
 use Rattle.model.specs.declared.Way.TheVariants.{ByRefund}
 use Rattle.model.specs.Deadlines.{kept_due, timely, days_since}
@@ -26,7 +27,7 @@ use Rattle.model.specs.Lookups.{mandate_of, collection_of}
 use Rattle.model.specs.Lookups.Known.{known}
 use Rattle.model.specs.Checks.{ruled}
 use Rattle.model.specs.Effects.{undone}
-use Rattle.model.specs.Step.{answer_number, is_accepted, answer, event_number, after, outcome, answer_value, event_value, in_query, figure_of, query, answered, run, Entry, history}
+use Rattle.model.specs.Step.{answer_number, is_accepted, answer, event_number, after, verdict_by, outcome, answer_value, event_value, in_query, figure_of, query, answered, run, Entry, history}
 use Rattle.model.specs.Journal.{NotedMandate, NotedCollection, Journal, journal_from, journal, figure_in}
 use Rattle.model.specs.Noted.{noted_known, SameKnown, started}
 
@@ -173,17 +174,21 @@ Timing =
 abbrev pub EventValues : Type 0
 EventValues = (l : Ledger) (e : Event) → answer_value (outcome l e) ≡ event_value l e
 
--- the due date is kept so many calendar days after the requested one, at most 4
+-- the due date is kept so many calendar days after the requested one
 pub record DaysHandedOn (l : Ledger) (e : Event) : Type 0 where
   pub due : ℕ
   pub is_due : first_business_day e.second ≡ Some due
   pub handed : outcome l e ≡ Ok (Slid (record { 0 = event_value l e }))
   pub counted : days_after (record { 0 = event_value l e }) e.second ≡ Some due
-  pub limit : event_value l e ≤ 4
+  pub limit : event_value l e ≤ slide_limit
 
 -- by any accepted collect, on any lent memory
 abbrev pub CollectHandsOn : Type 0
 CollectHandsOn = (l : Ledger) (e : Event) → is_accepted (answer l e) ≡ true → e.kind ≡ 5 → DaysHandedOn l e
+
+-- no other event hands on anything
+abbrev pub OthersHandOnNothing : Type 0
+OthersHandOnNothing = (l : Ledger) (e : Event) → e.kind ≢ 5 → outcome l e ≡ verdict_by (answer l e) Nothing
 
 -- ---- what a refund posts
 

@@ -7,7 +7,7 @@ ghost use Rattle.records.specs.Records.{ledger_with, mandate_in, collect_answer,
 
 use crate::MandatesMut;
 use crate::mandates::{is_live, mandate_in, mandate_there};
-use calendar::Kept;
+use calendar::KeptDate;
 use checking::found_row;
 use deadlines::collects::{is_lapsed, is_timely, kept_due};
 use model::{HandedOn, Presentation};
@@ -21,7 +21,7 @@ use tables::{Collection, Mandate, Standing, State};
 #[derive(Clone, Copy)]
 struct KeptPresentation {
     asked: Presentation,
-    kept: Kept,
+    kept: KeptDate,
 }
 
 impl Model for KeptPresentation {

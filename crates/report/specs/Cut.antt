@@ -1,6 +1,6 @@
 -- Where a line of the input ends, and the lines of a text. Document 01, "The text line": at a byte 10 and nowhere else. Bytes are numbers.
 -- To cite: proofs/Laws/Cut. Assumes nothing.
-use Rattle.std.specs.Prelude.{◌≡◌, ◌≢◌, Bool, true, false, cond, List, [], ◌∷◌, ◌++◌, ℕ, ◌-◌, ◌<◌, eqb, length, take, get_or, Option, Some, None}
+use Rattle.std.specs.Prelude.{◌≡◌, ◌≢◌, Bool, true, false, cond, List, [], ◌∷◌, ◌++◌, ℕ, ◌+◌, ◌-◌, ◌≤◌, ◌<◌, eqb, length, take, get_or, Option, Some, None}
 use Rattle.common.specs.Walk.{first_from}
 use Rattle.lines.specs.Line.{line_end}
 use Rattle.report.specs.Layout.{last_number}
@@ -37,6 +37,9 @@ lines_from partial (b ∷ bs) =
 -- those that are answered, where n were before: no more than 999,999 are
 unfoldable pub answered_lines : ℕ → List ℕ → List (List ℕ)
 answered_lines n text = take (last_number - n) (lines_from [] text)
+
+abbrev pub NoMoreAnswered : Type 0
+NoMoreAnswered = (n : ℕ) (text : List ℕ) → n ≤ last_number → n + length (answered_lines n text) ≤ last_number
 
 -- the bytes behind the last
 unfoldable pub last_from : List ℕ → List ℕ → List ℕ

@@ -1,5 +1,5 @@
--- A text by its lines, and what is answered to them: the run said once more, with no byte of it kept back. Document 01, "The text
--- line" and "The journal". Assumes nothing.
+-- What is answered to the lines of a text (crates/report/specs/Cut): the run said once more, with no byte of it kept back. Document 01, "The
+-- text line" and "The journal". Assumes nothing.
 use Rattle.std.specs.Prelude.{List, [], ◌∷◌, ◌++◌, ℕ, ◌+◌, eqb, Result, Ok, Err}
 use Rattle.events.specs.declared.Event.{Event}
 use Rattle.lines.specs.Line.{read_line}

@@ -1,10 +1,10 @@
-// The program `slide` of document 02, (e): requested dates from standard input, one a line; to standard output, for each line, the
-// kept due date and the calendar days that it slid. It reads and writes; what the bytes mean, what is answered to them and how
+// The program `slide`, for the counter (docs/DECISIONS.md, 79): requested dates from standard input, one a line; to standard output, for
+// each line, the kept due date and the calendar days that it slid. It reads and writes; what the bytes mean, what is answered to them and how
 // that is written is in crates/desk, proved.
 #![tactic(auto)]
 
 ghost use Rattle.std.specs.Prelude.{◌≡◌, ◌*◌, ◌≤◌, ◌<◌, length, IfOk};
-ghost use Rattle.desk.specs.Slide.{slide_line, slide_answer};
+ghost use Rattle.desk.specs.Slide.{slide_line_length, slide_answer_length};
 ghost use Rattle.slide.specs.Input.{is_past, Given, Turned, InputAnswered};
 
 use desk::Piece;
@@ -43,7 +43,7 @@ fn take_input<R: Read, W: Write>(
     text: &mut [u8],
     out: &mut [u8],
 ) -> Result<Piece, StreamFailed>
-    requires { (slide_line < length text.old) × (slide_answer * length text.old ≤ length out.old) }
+    requires { (slide_line_length < length text.old) × (slide_answer_length * length text.old ≤ length out.old) }
     ensures { IfOk result (λ p. InputAnswered (R.remaining input.old) (R.remaining input.new) (W.contents output.old) (W.contents output.new) p) }
 {
     let mut p = Piece {

@@ -1,6 +1,6 @@
 -- The promises of specs/Promises, proved. Assumes nothing.
 use mathlib.Core.Path.{◌≡◌, refl, ap}
-use mathlib.Core.Bool.{true, false}
+use mathlib.Core.Bool.{false}
 use Prim.Native.Nat.{ℕ, zero, suc, ◌+◌, ◌-◌, ◌<◌}
 use native.Mathlib.Numerals.{add-one}
 use native.Mathlib.Omega.{arith}
@@ -8,7 +8,7 @@ use Rattle.calendar.specs.Gregorian.{leap, leap_day, month_length, is_date}
 use Rattle.calendar.specs.DayNumber.{calendar_days, days_before, year_start, day_number, year_at, month_at, date_in, date_at, date_of}
 use Rattle.calendar.specs.Easter.{computus, easter_sunday}
 use Rattle.calendar.specs.Target.{closed_by, closed, business_day, is_open, First, seek, first_open, open_after, first_business_day, kept}
-use Rattle.calendar.specs.Promises.{Conversions, EasterSundays, FirstBusinessDay, business_days_in, NthBusinessDay, LastBusinessDay, KeptDue, PeriodsEnd, Slides, SlideLimit}
+use Rattle.calendar.specs.Promises.{Conversions, EasterSundays, FirstBusinessDay, business_days_in, NthBusinessDay, LastBusinessDay, KeptDue, PeriodsEnd, SlideLimit}
 use Rattle.calendar.proofs.Laws.Gregorian.{range_facts}
 use Rattle.calendar.proofs.Laws.DayNumber.{day_number_lt, date_at_date, date_at_day_number, day_number_date_at, day_number_mono, date_at_mono}
 use Rattle.calendar.proofs.Laws.Easter.{easter_facts}

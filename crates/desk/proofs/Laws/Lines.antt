@@ -5,7 +5,7 @@ use Rattle.std.proofs.Common.{Some, None}
 use mathlib.Core.Path.{◌≡◌, refl, sym, ap, ◌∙◌}
 use mathlib.Core.Bool.{true}
 use mathlib.Core.List.{List, [], ◌∷◌, ◌++◌, append_assoc, append-nil}
-use Prim.Native.Nat.{ℕ, ◌+◌, ◌-◌, ◌*◌, ◌/◌, ◌≤◌, ◌<◌, min}
+use Prim.Native.Nat.{ℕ, suc, ◌+◌, ◌-◌, ◌*◌, ◌/◌, ◌≤◌, ◌<◌, min}
 use native.Mathlib.Nat.{zero-add, add-sub_cancel_left, mul-le-mul_left, mul-suc, mul-div-le}
 use native.Mathlib.Omega.{arith}
 use borrow.Author.Tests.{ltb-true, leb-true}
@@ -23,6 +23,7 @@ use Rattle.report.specs.declared.layout.Progress.{Progress}
 use Rattle.report.proofs.Laws.Cut.{FirstEnd, end_from_at, end_from_none}
 use Rattle.report.proofs.Laws.Lines.{lines_first, lines_none, rest_endless, answered_first, answered_none}
 use Rattle.desk.specs.Lines.{rest_behind, numbered, lines_output, piece_fits}
+use Rattle.desk.specs.Promises.{InOrder}
 use Rattle.desk.specs.Answering.{next_end, AllWide, LineAnswered, LinesAnswered}
 
 -- ---- an answer
@@ -238,3 +239,18 @@ module _ (wide filled : ℕ) (text out : List ℕ) (fits : piece_fits wide fille
   piece_room h =
       let t = leb-true filled (length out / wide) (and_halves (leb filled (length text)) fits).1 in
       rw (length-take-le filled text piece_long) (omega (arith, mul-le-mul_left wide t, mul-div-le (length out) wide))
+
+-- ---- the lines are numbered from 1 on
+
+pub in_order : InOrder
+unfolding lines_output numbered
+in_order said n [] line after = let e : n + 0 ≡ n = omega arith in rw e
+in_order said n (x ∷ before) line after =
+    let e : n + 1 + length before ≡ n + suc (length before) = omega arith in
+    let own : List ℕ = numbered (n + 1) (said x) in
+    let earlier : List ℕ = lines_output said (n + 1) before in
+    let this : List ℕ = numbered (n + suc (length before) + 1) (said line) in
+    let later : List ℕ = lines_output said (n + suc (length before) + 1) after in
+    ap (λ (l : List ℕ). own ++ l) (rw e at (in_order said (n + 1) before line after))
+    ∙ sym (append_assoc own (earlier ++ this) later)
+    ∙ ap (λ (l : List ℕ). l ++ later) (sym (append_assoc own earlier this))

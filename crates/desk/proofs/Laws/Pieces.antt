@@ -23,7 +23,7 @@ use Rattle.report.specs.Layout.{last_number}
 use Rattle.report.proofs.Laws.Cut.{Endless}
 use Rattle.report.proofs.Laws.Lines.{last_endless, lines_append, lines_partial, all_bytes, answered_none}
 use Rattle.desk.specs.Lines.{rest_behind, numbered, lines_output, kept_rest, output_of}
-use Rattle.desk.specs.Slide.{slide_line, requested, slide_of, said_of, slide_said}
+use Rattle.desk.specs.Slide.{slide_line_length, requested, slide_of, said_of, slide_said}
 use Rattle.desk.specs.Promises.{Stage, stage_at, take_piece, piece_output, take_pieces, pieces_output, SameAtOnce, LongAlike, InPieces, SlideInPieces}
 
 -- ---- a text in two parts: the second begins behind the lines that are answered in the first
@@ -343,12 +343,12 @@ in_pieces long said alike n pieces = same_at_once long said alike n pieces
 
 -- ---- the kept due date
 
-pub slide_long_alike : LongAlike slide_line slide_said
+pub slide_long_alike : LongAlike slide_line_length slide_said
 unfolding slide_said requested
 slide_long_alike x y h k = ap (λ (a : Result ℕ Refusal). said_of (slide_of a)) (no_line x h ∙ sym (no_line y k))
   where
-    no_line : (z : List ℕ) → slide_line < length z → requested z ≡ Err BadLine
-    no_line z l = let e : eqb (length z) slide_line ≡ false = ne_eqb (length z) slide_line (λ q. omega arith) in rw e
+    no_line : (z : List ℕ) → slide_line_length < length z → requested z ≡ Err BadLine
+    no_line z l = let e : eqb (length z) slide_line_length ≡ false = ne_eqb (length z) slide_line_length (λ q. omega arith) in rw e
 
 pub slide_in_pieces : SlideInPieces
-slide_in_pieces n pieces = same_at_once slide_line slide_said slide_long_alike n pieces
+slide_in_pieces n pieces = same_at_once slide_line_length slide_said slide_long_alike n pieces

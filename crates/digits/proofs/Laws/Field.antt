@@ -1,5 +1,5 @@
 -- Laws of a field, specs/Field. To cite: `length_signed_field`, `signed_field_digits` (the sign directly before the digits),
--- `read_field_field_bytes` and `field_bytes_read_field` (reading and writing undo each other). The rest serves the
+-- `read_field_field_bytes` and `field_bytes_read_field` (reading and writing undo each other), `read_field_narrow`. The rest serves the
 -- functions of this crate. Assumes nothing.
 use Rattle.std.proofs.Common.{None, Option, Some, ℕ}
 use mathlib.Core.Path.{◌≡◌, refl, sym, ◌∙◌, ap, subst}
@@ -340,3 +340,7 @@ read_field_reads (b ∷ bs) v e =
 -- writing what was read of a field gives its bytes
 pub field_bytes_read_field : (l : List ℕ) (v : ℕ) → read_field l ≡ Some v → field_bytes (length l) v ≡ l
 field_bytes_read_field l v e = (read_field_reads l v e).bytes
+
+-- and it has no more digits than the field columns
+pub read_field_narrow : (l : List ℕ) (v : ℕ) → read_field l ≡ Some v → v < 10 ^ length l
+read_field_narrow l v e = (read_field_reads l v e).narrow

@@ -1,5 +1,5 @@
 -- What an answer hands on. To cite: `verdict_go`, `verdict_refuse`, `verdict_number`, `outcome_accepted`, `outcome_refused`, `kept_both`,
--- `event_values`, `collect_hands_on`. Assumes nothing.
+-- `event_values`, `collect_hands_on`, `others_hand_on_nothing`. Assumes nothing.
 use Rattle.std.specs.Option.{unwrap_or}
 use Rattle.std.proofs.Common.{Err, None, Ok, Option, Result, Some, ℕ}
 use mathlib.Core.Path.{◌≡◌, refl, sym, ap, subst, ◌∙◌}
@@ -9,7 +9,7 @@ use borrow.Author.Tests.{ne_eqb, eqb-true}
 use lib.Dec.{eqb}
 use Rattle.common.proofs.Tests.{either}
 use Rattle.calendar.specs.declared.CalendarDays.{CalendarDays}
-use Rattle.calendar.specs.declared.Kept.{Kept}
+use Rattle.calendar.specs.declared.KeptDate.{KeptDate}
 use Rattle.calendar.specs.Target.{first_business_day, with_days, kept}
 use Rattle.calendar.proofs.Laws.Gregorian.{range_facts}
 use Rattle.calendar.proofs.Laws.Promises.{slide_limit_lem}
@@ -28,7 +28,7 @@ use Rattle.model.specs.declared.HandedOn.TheVariants.{Nothing, Slid}
 use Rattle.model.specs.Actions.{new_mandate, amendment, authorisation, action_of}
 use Rattle.model.specs.Deadlines.{date_found, kept_due, days_found, slid, kept_with_days}
 use Rattle.model.specs.Step.{answer_number, is_accepted, answer, event_number, handed_on, verdict_by, outcome, value_of, answer_value, event_value}
-use Rattle.model.specs.Promises.{EventValues, CollectHandsOn}
+use Rattle.model.specs.Promises.{EventValues, CollectHandsOn, OthersHandOnNothing}
 use Rattle.model.proofs.Laws.Actions.{action_collect}
 use Rattle.model.proofs.Laws.Sound.{Sound}
 use Rattle.model.proofs.Laws.Accepted.{was_accepted}
@@ -60,7 +60,7 @@ module _ (l : Ledger) (e : Event) where
 
 -- ---- the kept due and the days to it are of one answer of the calendar
 
-abbrev no_date : Kept
+abbrev no_date : KeptDate
 no_date = record { date = 0; slid = record { 0 = 0 } }
 
 pub kept_both : (requested : ℕ) → unwrap_or (kept requested) no_date ≡ kept_with_days requested
@@ -127,13 +127,17 @@ module _ (l : Ledger) (e : Event) (a : is_accepted (answer l e) ≡ true) (k : e
   unfolding outcome
   outcome_slid = accepted_lem (answer l e) a ∙ ap (λ (h : HandedOn). Ok h) (handed_collect e k)
 
+pub others_hand_on_nothing : OthersHandOnNothing
+unfolding outcome
+others_hand_on_nothing l e k = ap (λ (h : HandedOn). verdict_by (answer l e) h) (quiet_kinds e (ne_eqb e.kind 5 k))
+
 pub collect_hands_on : CollectHandsOn
 collect_hands_on l e a k =
     let w = was_accepted l e a in
     let d = (range_facts e.second (subst Sound (action_collect e k) w.sound).requested).is_date_lem in
     let s = slide_limit_lem.every_date e.second d in
-    let b : s.answer ≡ kept_with_days e.second = ap (λ (o : Option Kept). unwrap_or o no_date) (sym s.is) ∙ kept_both e.second in
-    let v : record { 0 = event_value l e } ≡ s.answer.slid = ap (λ (n : ℕ). record { 0 = n }) (value_slid l e a k) ∙ ap (λ (x : Kept). x.slid) (sym b) in
+    let b : s.answer ≡ kept_with_days e.second = ap (λ (o : Option KeptDate). unwrap_or o no_date) (sym s.is) ∙ kept_both e.second in
+    let v : record { 0 = event_value l e } ≡ s.answer.slid = ap (λ (n : ℕ). record { 0 = n }) (value_slid l e a k) ∙ ap (λ (x : KeptDate). x.slid) (sym b) in
     record {
       due = s.answer.date;
       is_due = s.first;

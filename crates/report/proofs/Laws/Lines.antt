@@ -1,5 +1,5 @@
 -- Laws of a text by its lines, specs/Cut. To cite: of the line from a place to its end `segment` with its laws; `rest_endless`; `lines_first`,
--- `lines_none`; of no more than 999,999 lines `answered_first`, `answered_none`; of a text in two parts `lines_append`, `last_endless`,
+-- `lines_none`; of no more than 999,999 lines `no_more_answered`, `answered_first`, `answered_none`; of a text in two parts `lines_append`, `last_endless`,
 -- `lines_partial`, `all_bytes`. Assumes nothing.
 use Rattle.std.specs.List.{concat}
 use mathlib.Core.Path.{◌≡◌, refl, sym, ap, ◌∙◌}
@@ -11,12 +11,12 @@ use native.Mathlib.Nat.{eq-or-lt_of_le, sub-eq-zero_of_le}
 use native.Mathlib.Omega.{arith}
 use borrow.Author.Tests.{ne_eqb, eqb-false, ltb-true, ltb-false}
 use lib.Dec.{eqb, ltb}
-use lib.ListN.{length, take, drop, get_or, length-append, length-drop, take-append-drop, get_or-append}
+use lib.ListN.{length, take, drop, get_or, length-append, length-take, length-drop, take-append-drop, get_or-append}
 use lib.Seq.{length-take-le, take-add, take-suc, get_or-take, get_or-drop, get_or-append_seam, drop-drop}
 use Rattle.common.proofs.Tests.{either}
 use Rattle.common.proofs.Walk.{one_more}
 use Rattle.lines.specs.Line.{line_end}
-use Rattle.report.specs.Cut.{lines_from, last_from}
+use Rattle.report.specs.Cut.{lines_from, answered_lines, NoMoreAnswered, last_from}
 use Rattle.report.specs.Layout.{last_number}
 use Rattle.report.proofs.Laws.Cut.{Endless, FirstEnd}
 
@@ -92,6 +92,10 @@ pub answered_first :
     → ltb n last_number ≡ true
     → take (last_number - n) (line ∷ rest) ≡ line ∷ take (last_number - (n + 1)) rest
 answered_first n line rest e = rw (one_more n last_number (ltb-true n last_number e))
+
+pub no_more_answered : NoMoreAnswered
+unfolding answered_lines
+no_more_answered n text h = omega (arith, length-take (last_number - n) (lines_from [] text))
 
 pub answered_none : (n : ℕ) (rest : List (List ℕ)) → ltb n last_number ≡ false → take (last_number - n) rest ≡ []
 answered_none n rest e = rw (sub-eq-zero_of_le (ltb-false n last_number e))

@@ -14,20 +14,20 @@ use lib.Seq.{take-add, take-append_seam, length-take-le}
 use Rattle.report.specs.Cut.{answered_lines}
 use Rattle.desk.specs.declared.Piece.{Piece}
 use Rattle.desk.specs.Lines.{rest_behind, kept_rest, output_of}
-use Rattle.desk.specs.Slide.{slide_line, slide_said}
+use Rattle.desk.specs.Slide.{slide_line_length, slide_said}
 use Rattle.desk.specs.Promises.{Stage, take_piece, piece_output}
 use Rattle.desk.proofs.Laws.Pieces.{stage_of, after, after_none, written_none, two_at_once, slide_long_alike}
 use Rattle.slide.specs.Input.{is_past, Turned, InputTaken, InputAnswered}
 
 -- ---- the whole input
 
-pub taken_none : (left held : Option (List ℕ)) (text : List ℕ) → slide_line < length text → InputTaken left left held held 0 0 text
+pub taken_none : (left held : Option (List ℕ)) (text : List ℕ) → slide_line_length < length text → InputTaken left left held held 0 0 text
 taken_none left held text h =
     record {
       input = [];
       read = Consumes-nil left;
-      written = subst (Appends held held) (sym (written_none slide_line slide_said slide_long_alike 0)) (Appends-nil held);
-      stage_is = sym (after_none slide_line slide_said slide_long_alike 0);
+      written = subst (Appends held held) (sym (written_none slide_line_length slide_said slide_long_alike 0)) (Appends-nil held);
+      stage_is = sym (after_none slide_line_length slide_said slide_long_alike 0);
       room = omega (arith, h);
     }
 
@@ -36,7 +36,7 @@ module _
   lines_taken : p.lines ≡ length (answered_lines 0 a.input)
   lines_taken = ap (λ (s : Stage). s.lines) a.stage_is ∙ zero-add _
 
-  partial_taken : p.partial ≡ length (kept_rest slide_line 0 a.input)
+  partial_taken : p.partial ≡ length (kept_rest slide_line_length 0 a.input)
   partial_taken = sym (length-take-le p.partial text (le_of_lt a.room)) ∙ ap (λ (s : Stage). length s.rest) a.stage_is
 
   -- the input is at its end
@@ -77,16 +77,16 @@ module _
         ∙ ap (λ (k : ℕ). take p.partial text ++ take k (drop p.partial text')) (sym m)
 
     abbrev kept : List ℕ
-    kept = kept_rest slide_line p.lines (take (p.partial + got) text')
+    kept = kept_rest slide_line_length p.lines (take (p.partial + got) text')
 
     pub taken_on : (out : List ℕ) (r : Piece) (text'' out' : List ℕ) (next grown : Option (List ℕ))
-        → slide_line < length text''
+        → slide_line_length < length text''
         → Consumes now next bytes
         → Turned p (p.partial + got) text' out r text'' out'
         → Appends so_far grown (take r.written out')
         → InputTaken left next held grown r.lines r.partial text''
     taken_on out r text'' out' next grown h read t appended =
-        let two = two_at_once slide_line slide_said slide_long_alike 0 a.input bytes in
+        let two = two_at_once slide_line_length slide_said slide_long_alike 0 a.input bytes in
         let given = take (p.partial + got) text' in
         let lines_are : r.lines ≡ p.lines + length (answered_lines p.lines given) = ap (λ (x : Piece). x.lines) t.piece_is in
         let partial_is : r.partial ≡ length kept = ap (λ (x : Piece). x.partial) t.piece_is in
@@ -97,7 +97,7 @@ module _
         ap (λ (n : ℕ). take n out') (ap (λ (x : Piece). x.written) t.piece_is)
         ∙ ap (take (length more)) t.out_is
         ∙ take-append_seam more (drop (0 + length more) out) in
-        let behind : more ≡ piece_output slide_said (after slide_line 0 a.input) bytes =
+        let behind : more ≡ piece_output slide_said (after slide_line_length 0 a.input) bytes =
         ap (output_of slide_said p.lines) given_is ∙ ap (λ (s : Stage). piece_output slide_said s bytes) a.stage_is in
         record {
           input = a.input ++ bytes;
@@ -108,8 +108,8 @@ module _
               (subst (Appends so_far grown) (written_is ∙ behind) appended));
           stage_is =
               stage_of lines_are kept_is
-              ∙ ap (λ (x : List ℕ). after slide_line p.lines x) given_is
-              ∙ ap (λ (s : Stage). take_piece slide_line s bytes) a.stage_is
+              ∙ ap (λ (x : List ℕ). after slide_line_length p.lines x) given_is
+              ∙ ap (λ (s : Stage). take_piece slide_line_length s bytes) a.stage_is
               ∙ sym two.after_is;
-          room = omega (arith, h, partial_is, length-take slide_line (rest_behind p.lines given));
+          room = omega (arith, h, partial_is, length-take slide_line_length (rest_behind p.lines given));
         }

@@ -1,5 +1,5 @@
 use Rattle.std.proofs.Common.{rules, sym, ap, ◌∙◌}
-use Rattle.calendar.specs.declared.Kept.{Kept}
+use Rattle.calendar.specs.declared.KeptDate.{KeptDate}
 use Rattle.model.specs.declared.Presentation.{Presentation}
 use Rattle.model.specs.Deadlines.{slid}
 use Rattle.records.proofs.Laws.Records.{collected_refused, collected_done}
@@ -12,5 +12,5 @@ returns-in_err-m-clause-collected c = λ cp dp bp.
 pub returns-clause-collected : goal.returns-clause-collected
 returns-clause-collected c = λ cp dp bp.
     collected_done _ _ _ _ _ (c.in_ok-m.m, c.in_ok-m.presented) _ _ (sym c.judge_collect.ensures ∙ c.in_ok-m.was)
-    (ap (λ (k : Kept). k.slid) c.presented.invariant ∙ ap (λ (p : Presentation). slid p.requested) c.presented.view_is)
+    (ap (λ (k : KeptDate). k.slid) c.presented.invariant ∙ ap (λ (p : Presentation). slid p.requested) c.presented.view_is)
     (rw (c.put_record.ensures, c.put_record-2.ensures, c.presented_on.ensures, c.new_collection-c.ensures, c.found_row.ensures))
