@@ -1,4 +1,5 @@
--- What is promised of the answers: `SlideSays`, what is said to any line, worded anew; `InOrder`, the numbers of the lines; `InPieces`. proofs/Laws/Slide, Laws/Lines and Laws/Pieces have the proofs. Assumes nothing.
+-- What is promised of the answers: `SlideSays`, what is said to any line, worded anew; `InOrder`, the numbers of the lines; `InPieces`.
+-- proofs/Laws/Slide, Laws/Lines and Laws/Pieces have the proofs. Assumes nothing.
 use Rattle.std.specs.Prelude.{◌≡◌, ◌≢◌, true, false, List, [], ◌∷◌, ◌++◌, ℕ, ◌+◌, ◌^◌, ◌<◌, length, take, drop, Some}
 use Rattle.std.specs.List.{concat}
 use Rattle.calendar.specs.Gregorian.{in_range}
