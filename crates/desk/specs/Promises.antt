@@ -11,12 +11,13 @@ use Rattle.report.specs.Cut.{answered_lines}
 use Rattle.desk.specs.Lines.{lines_output, kept_rest, output_of}
 use Rattle.desk.specs.Slide.{slide_line_length, slide_said}
 
--- ---- what is said to a line, by what is read of it: an answer in 3 columns, a date in 9 and days in 2
+-- ---- what is said to a line, by what is read of it: an answer in 3 columns, a date in 9 and days in 2, and nothing behind them
 
 pub record Says (line : List ℕ) (answer date days : ℕ) : Type 0 where
   pub answer_read : read_field (take 3 (slide_said line)) ≡ Some answer
   pub date_read : read_field (take 9 (drop 3 (slide_said line))) ≡ Some date
   pub days_read : read_field (take 2 (drop 12 (slide_said line))) ≡ Some days
+  pub long : length (slide_said line) ≡ 14
 
 -- the line that asks for a number
 abbrev pub question_of : ℕ → List ℕ

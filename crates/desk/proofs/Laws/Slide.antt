@@ -148,6 +148,7 @@ says line a e =
       answer_read = r.answer ∙ ap (λ (b : Result KeptDate Refusal). Some (answer_number b)) e;
       date_read = r.date ∙ ap (λ (b : Result KeptDate Refusal). Some (shown b).date) e;
       days_read = r.days ∙ ap (λ (b : Result KeptDate Refusal). Some (shown b).slid.0) e;
+      long = said_length (asked line);
     }
 
 -- ---- what the line of a number asks for
