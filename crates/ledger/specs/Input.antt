@@ -55,7 +55,7 @@ pub record InputTaken (start : Run) (l : Ledger) (lines partial : ℕ) (past : B
   pub room : partial < length text
   pub past_is : past ≡ passes 0 input (take_text start input)
 
--- the same where a stream failed: how many lines were answered, and how long the partial line is, is not handed on then
+-- the same for one who is not handed on how many lines were answered, nor how long the partial line is
 pub record InputMade (start : Run) (l : Ledger) (text : List ℕ) : Type 0 where
   pub lines : ℕ
   pub partial : ℕ

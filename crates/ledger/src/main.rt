@@ -3,13 +3,12 @@
 // answered to them and how that is written is in the libraries, proved.
 #![tactic(auto)]
 
-ghost use Rattle.std.specs.Prelude.{◌≡◌, [], ◌+◌, ◌*◌, ◌≤◌, ◌<◌, length, IfOk};
-ghost use Rattle.digits.specs.Field.{pasted};
+ghost use Rattle.std.specs.Prelude.{◌≡◌, false, [], ◌+◌, ◌*◌, ◌≤◌, ◌<◌, length, is_ok, IfOk};
 ghost use Rattle.tables.specs.Ledger.{ledger_of, ledger_in, SameLoans};
 ghost use Rattle.report.specs.Layout.{answer_length};
 ghost use Rattle.run.specs.Run.{run_at, clipped_length};
 ghost use Rattle.ledger.specs.Input.{filled_after, Behind, Given, Turned, InputTaken, InputMade};
-ghost use Rattle.ledger.specs.Program.{Begins, LastRoom, last_output, Finished, Shown};
+ghost use Rattle.ledger.specs.Program.{Begins, LastRoom, Finished, Shown};
 
 use listing::ending::end_text;
 use listing::listing::list_positions;
@@ -34,7 +33,7 @@ const OUT: usize = 2_621_440;
 // How far a run is: the lines answered, the bytes of the partial line at the front of the text, the bytes of answers to be
 // written, and whether there is input beyond the last line that is answered. With a `Piece` and a flag in it each of the first three would be a
 // name further off.
-#[derive(Clone, Copy)]
+#[derive(Clone, Copy, Default)]
 struct Stage {
     lines: u64,
     partial: usize,
@@ -76,21 +75,22 @@ fn take_piece(p: Stage, book: &mut BookMut, filled: usize, text: &mut [u8], out:
     }
 }
 
-// The whole input, piece by piece, until it ends, goes past the last line that is answered, or a stream fails. A proved loop
-// has to end, and nothing says that the input does: so the loop has a number of turns that no run uses up.
+// The whole input, piece by piece, until it ends, goes past the last line that is answered, or a stream fails: the stage is how far
+// the run is then, in each case. A proved loop has to end, and nothing says that the input does: so the loop has a number of turns
+// that no run uses up.
 #[tactic(auto, using(crate::proofs::Laws::Input::taken_none))]
 fn take_input(
     rt: HostRuntime,
+    p: &mut Stage,
     book: &mut BookMut,
     text: &mut [u8],
     out: &mut [u8],
-) -> Result<Stage, StreamFailed>
+) -> Result<(), StreamFailed>
     requires { (clipped_length < length text.old) × (answer_length * length text.old ≤ length out.old) }
     ensures loans { SameLoans book.old book.new }
-    ensures made { InputMade (run_at (ledger_in book.old) 0 []) (ledger_in book.new) text.new }
-    ensures taken { IfOk result (λ p. InputTaken (run_at (ledger_in book.old) 0 []) (ledger_in book.new) p.lines p.partial p.beyond text.new) }
+    ensures taken { InputTaken (run_at (ledger_in book.old) 0 []) (ledger_in book.new) p.new.lines p.new.partial p.new.beyond text.new }
 {
-    let mut p = Stage {
+    *p = Stage {
         lines: 0,
         partial: 0,
         written: 0,
@@ -101,13 +101,13 @@ fn take_input(
         if filled == p.partial {
             break;
         }
-        p = take_piece(p, book, filled, text, out);
+        *p = take_piece(*p, book, filled, text, out);
         write_whole(rt, &out[..p.written])?;
         if p.beyond {
             break;
         }
     }
-    Ok(p)
+    Ok(())
 }
 
 // Says that lines past the last that is answered were not read.
@@ -125,33 +125,44 @@ fn put_last(p: Stage, book: &BookRef, out: &mut [u8]) -> usize
     end.written + listed
 }
 
-// Writes what there is to be written where the input ends, and gives its bytes; says it if there was more input.
-fn finish(rt: HostRuntime, p: Stage, book: &BookRef, out: &mut [u8]) -> Result<usize, StreamFailed>
-    requires { LastRoom (ledger_of book.now) out.old }
-    ensures made { out.new ≡ pasted 0 (last_output (ledger_of book.now) p.lines p.partial) out.old }
-    ensures bytes { IfOk result (λ bytes. bytes ≡ length (last_output (ledger_of book.now) p.lines p.partial)) }
+// Writes bytes unless a stream failed before.
+fn send(rt: HostRuntime, before: Result<(), StreamFailed>, bytes: &[u8]) -> Result<(), StreamFailed>
+    ensures { (is_ok before ≡ false → is_ok result ≡ false) × (length bytes.now ≡ 0 → is_ok result ≡ is_ok before) }
 {
-    let bytes = put_last(p, book, out);
-    write_whole(rt, &out[..bytes])?;
-    if p.beyond {
-        say_past(rt);
-    }
-    Ok(bytes)
+    before?;
+    write_whole(rt, bytes)
 }
 
-// The lines of the input, and then the positions, by a text and a buffer for answers; gives the last bytes that are written.
-fn run_by(
+// Makes what is to be written where the input ends, and writes it if no stream failed; says it if there was more input. Gives its
+// bytes in each case.
+fn finish(
     rt: HostRuntime,
-    book: &mut BookMut,
-    text: &mut [u8; TEXT],
-    out: &mut [u8; OUT],
-) -> Result<usize, StreamFailed>
+    input: Result<(), StreamFailed>,
+    p: Stage,
+    book: &BookRef,
+    out: &mut [u8],
+) -> usize
+    requires { LastRoom (ledger_of book.now) out.old }
+    ensures { Finished (ledger_of book.now) p.lines p.partial out.old result out.new }
+{
+    let bytes = put_last(p, book, out);
+    let sent = send(rt, input, &out[..bytes]);
+    if sent.is_ok() & p.beyond {
+        say_past(rt);
+    }
+    bytes
+}
+
+// The lines of the input, and then the positions, by a text and a buffer for answers; gives the last bytes that are to be written,
+// and are where no stream failed.
+fn run_by(rt: HostRuntime, book: &mut BookMut, text: &mut [u8; TEXT], out: &mut [u8; OUT]) -> usize
     requires { Begins (ledger_in book.old) }
     ensures made { InputMade (run_at (ledger_in book.old) 0 []) (ledger_in book.new) text.new }
-    ensures shown { IfOk result (λ bytes. Shown (ledger_in book.old) bytes out.new) }
+    ensures shown { Shown (ledger_in book.old) result out.new }
 {
-    let p = take_input(rt, book, text, out)?;
-    finish(rt, p, &book.view(), out)
+    let mut p = Stage::default();
+    let input = take_input(rt, &mut p, book, text, out);
+    finish(rt, input, p, &book.view(), out)
 }
 
 // Lends the text and the buffer. Why a stream failed was said, and the run ends there.
@@ -160,7 +171,7 @@ fn run(rt: HostRuntime, book: &mut BookMut)
 {
     let mut text = [0u8; TEXT];
     let mut out = [0u8; OUT];
-    let _ = run_by(rt, book, &mut text, &mut out);
+    run_by(rt, book, &mut text, &mut out);
 }
 
 // Lends the rows, opens the ledger on them and runs.

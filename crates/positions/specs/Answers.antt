@@ -1,6 +1,6 @@
 -- What the calls answer, and what they leave in a table of positions: a refusal leaves every one as it was.
 -- Assumes nothing.
-use Rattle.std.specs.Prelude.{Bool, cond, ◌&&◌, List, ℕ, ◌-◌, leb, ℤ, Option, Some, None, Result, Ok, Err}
+use Rattle.std.specs.Prelude.{Bool, cond, ◌&&◌, List, ℕ, ◌-◌, leb, ℤ, Option, Some, None, Result, Ok, Err, codes}
 use Rattle.positions.specs.Compensation.{amount_limit}
 use Rattle.positions.specs.Limits.{compensation_limit}
 use Rattle.positions.specs.Postings.{settlement, reversed, refunded}
@@ -12,6 +12,11 @@ use Rattle.positions.specs.declared.Postings.{Postings}
 -- the numbers that a posting adds lie within this on either side, so that 64 bits hold their sum
 abbrev pub capacity : ℕ
 capacity = 4000000000000000000
+
+-- the words of why nothing was posted
+abbrev pub error_words : PostError → List ℕ
+error_words NoEntry = codes "no entry"
+error_words TooLarge = codes "too large"
 
 -- the index of the entry of a number: the party numbered 1 is at index 0
 abbrev pub entry_index : List ℤ → ℕ → Result ℕ PostError

@@ -20,6 +20,11 @@ pub enum PostError {
 }
 
 impl fmt::Display for PostError {
+    ghost use Rattle.std.specs.Prelude.{Some};
+    ghost use Rattle.positions.specs.Answers.{error_words};
+
+    ghost output = { λ e. Some (error_words e) };
+
     fn fmt<W: fmt::Write>(&self, f: &mut fmt::Formatter<W>) -> fmt::Result {
         match self {
             PostError::NoEntry => write!(f, "no entry"),

@@ -446,19 +446,16 @@ fn lent_collections(collections: &mut [u64]) {
 }
 
 // Creditor 1 of bank 1, two mandates of it, a recurrent and a one-off one, and a collection in each state; a row of each table is not used.
-fn lent() -> Memory {
-    let mut memory = Memory::zeros();
+fn lent(memory: &mut Memory) {
     memory.header = head(20240412, 2, 4, 10);
     put_record(&mut memory.mandates, 0, mandate(7, 0));
     put_record(&mut memory.mandates, 1, mandate(8, 1));
     lent_collections(&mut memory.collections);
     set(&mut memory.creditors, 0, 1);
-    memory
 }
 
-// The ledger of `lent` with a change.
-fn changed(change: Change) -> Memory {
-    let mut memory = lent();
+// A change of the ledger of `lent`.
+fn make(change: Change, memory: &mut Memory) {
     match change {
         Change::Header(latest, mandates, collections, compensation) => {
             memory.header = head(latest, mandates, collections, compensation);
@@ -472,12 +469,14 @@ fn changed(change: Change) -> Memory {
             set(&mut memory.bank_positions, 63, other);
         }
     }
-    memory
 }
 
 fn changes(rt: &impl Print, cases: &[(&str, Change)]) -> io::Result<()> {
     for (name, change) in cases {
-        line(rt, name, answer(&changed(*change).book()))?;
+        let mut memory = Memory::zeros();
+        lent(&mut memory);
+        make(*change, &mut memory);
+        line(rt, name, answer(&memory.book()))?;
     }
     Ok(())
 }
@@ -515,7 +514,8 @@ fn party_sizes(rt: &impl Print, cells: &[u64], cents: &[i64]) -> io::Result<()> 
 
 // Among the collections of `lent` and a second one of 70: the row of a number, 9 where there is none.
 fn lookups(rt: &impl Print) -> io::Result<()> {
-    let mut collections = lent().collections;
+    let mut collections = [0; COLLECTIONS * STRIDE];
+    lent_collections(&mut collections);
     put_record(&mut collections, 4, collection(70, State::Presented));
     for (name, used, number) in &LOOKUPS {
         let row = find(&collections, *used, *number).unwrap_or(9);

@@ -1,5 +1,5 @@
 -- Cells that are as many as they should be: what was written to them is read, and all of them together. To cite: `state_whole`,
--- `header_of_whole`, `fresh_state_lem`, `fresh_cents_lem`, `reads_back`. Assumes nothing.
+-- `header_back`, `header_of_whole`, `fresh_state_lem`, `fresh_cents_lem`, `reads_back`. Assumes nothing.
 use mathlib.Core.Path.{◌≡◌, refl, sym, ap, ◌∙◌}
 use mathlib.Core.Bool.{true}
 use mathlib.Core.List.{List, [], ◌∷◌, ◌++◌, append-nil}
@@ -46,7 +46,13 @@ module _ (state : List ℕ) (cents : List ℤ) (f : cells_fit state cents ≡ tr
   cents_head : (z : ℤ) → set cents 0 z ≡ z ∷ drop 1 cents
   cents_head z = sets-eq (z ∷ []) cents 0 (omega (arith, cents_length))
 
-  -- the header that was written is the one that is read
+  -- the header that was written is the one that is read, also where the other cells were
+  pub header_back : (h : Header) → header_in (header_state h state) (header_cents h cents) ≡ h
+  header_back h =
+      let s = sets-eq (h.latest ∷ h.mandates ∷ h.collections ∷ []) state 0 (omega (arith, state_length state state_cells_fit_lem)) in
+      ap (λ (x : List ℕ). header_in x (header_cents h cents)) s
+      ∙ ap (header_in (h.latest ∷ h.mandates ∷ h.collections ∷ drop 3 state)) (cents_head h.compensation)
+
   pub header_of_whole : (h : Header) (c : Counts) → header_in (state_cells h c) (header_cents h cents) ≡ h
   header_of_whole h c = ap (header_in (state_cells h c)) (cents_head h.compensation)
 

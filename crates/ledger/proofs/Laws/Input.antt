@@ -1,4 +1,4 @@
--- Laws of specs/Input. To cite: `taken_none`, `made_by`, `made_failed`, `taken_on`. Assumes nothing.
+-- Laws of specs/Input. To cite: `taken_none`, `taken_still`, `taken_on`. Assumes nothing.
 use mathlib.Core.Path.{◌≡◌, refl, sym, ap, ◌∙◌, subst}
 use mathlib.Core.Bool.{Bool, false, ◌&&◌, ◌||◌}
 use mathlib.Core.List.{List, [], ◌++◌}
@@ -23,7 +23,7 @@ use Rattle.listing.specs.Past.{lines_past, goes_past}
 use Rattle.listing.proofs.Laws.Past.{past_next}
 use Rattle.text.specs.Text.{piece_run}
 use Rattle.ledger.specs.declared.Stage.{Stage}
-use Rattle.ledger.specs.Input.{passes, Turned, InputTaken, InputMade}
+use Rattle.ledger.specs.Input.{passes, Turned, InputTaken}
 
 -- ---- bytes at the front of others
 
@@ -42,28 +42,19 @@ taken_none l text h = record { input = []; run_is = refl; room = omega (arith, h
 short_room : (n m k : ℕ) → n ≡ m → m ≤ clipped_length → clipped_length < k → n < k
 short_room n m k e s h = omega (arith, e, s, h)
 
-pub made_by : (start : Run) (l : Ledger) (lines partial : ℕ) (past : Bool) (text : List ℕ) → InputTaken start l lines partial past text → InputMade start l text
-made_by start l lines partial past text a = record { lines = lines; partial = partial; past = past; taken = a }
-
--- a read that failed
-pub made_failed : (start : Run) (l : Ledger) (lines partial : ℕ) (past : Bool) (text : List ℕ)
+-- a read that failed, or gave nothing, leaves what was taken
+pub taken_still : (start : Run) (l : Ledger) (lines partial : ℕ) (past : Bool) (text : List ℕ)
     → InputTaken start l lines partial past text
     → (text' : List ℕ)
     → take partial text' ≡ take partial text
     → length text' ≡ length text
-    → InputMade start l text'
-made_failed start l lines partial past text a text' front same =
+    → InputTaken start l lines partial past text'
+taken_still start l lines partial past text a text' front same =
     record {
-      lines = lines;
-      partial = partial;
-      past = past;
-      taken =
-          record {
-            input = a.input;
-            run_is = ap (run_at l lines) front ∙ a.run_is;
-            room = omega (arith, a.room, same);
-            past_is = a.past_is;
-          };
+      input = a.input;
+      run_is = ap (run_at l lines) front ∙ a.run_is;
+      room = omega (arith, a.room, same);
+      past_is = a.past_is;
     }
 
 -- a read and its turn

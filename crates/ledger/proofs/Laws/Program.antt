@@ -1,5 +1,5 @@
 -- Laws of specs/Program. To cite: `begins_opened`, `rows_lent`, `listing_taken`, `room_after`, `shown_after`. Assumes nothing.
-use Rattle.std.proofs.Common.{Ok, Err, Result, IfOk}
+use Rattle.std.proofs.Common.{Ok, Result}
 use mathlib.Core.Path.{◌≡◌, refl, sym, ap, subst, ◌∙◌}
 use mathlib.Core.Bool.{Bool, true}
 use mathlib.Core.List.{List, [], ◌++◌}
@@ -13,7 +13,6 @@ use lib.ListN.{length, take, drop, replicate, length-replicate, length-drop}
 use lib.Seq.{take-append_seam, length-take-le}
 use Rattle.std.proofs.lemmas.Bool.{cond_both}
 use Rattle.common.proofs.Tests.{and_true}
-use Rattle.digits.specs.Field.{pasted}
 use Rattle.tables.specs.Limits.{stride}
 use Rattle.tables.specs.Rows.{rows}
 use Rattle.tables.specs.Ledger.{Ledger}
@@ -35,7 +34,6 @@ use Rattle.run.proofs.Laws.Program.{program_kept}
 use Rattle.ledger.specs.Input.{InputTaken}
 use Rattle.ledger.specs.Program.{mandate_rows, collection_rows, Begins, LastRoom, last_output, Finished, Shown}
 use Rattle.refusals.specs.declared.Refusal.{Refusal}
-use Rattle.streams.specs.declared.StreamFailed.{StreamFailed}
 
 -- ---- the start
 
@@ -121,17 +119,13 @@ module _ (l l' : Ledger) (lines partial : ℕ) (past : Bool) (text : List ℕ) (
       ap (end_bytes lines) (sym (length-take-le partial text (le_of_lt t.room)))
       ∙ ap end_output t.run_is
 
-  pub shown_after : (out : List ℕ) (r : Result ℕ StreamFailed) (out' : List ℕ)
-      → out' ≡ pasted 0 (last_output l' lines partial) out
-      → IfOk r (λ bytes. bytes ≡ length (last_output l' lines partial))
-      → IfOk r (λ bytes. Shown l bytes out')
-  shown_after out (Ok bytes) out' w n =
+  pub shown_after : (out : List ℕ) (bytes : ℕ) (out' : List ℕ) → Finished l' lines partial out bytes out' → Shown l bytes out'
+  shown_after out bytes out' f =
       record {
         input = t.input;
         last =
-            finished_front l' lines partial out bytes out' (record { bytes_are = n; out_is = w })
+            finished_front l' lines partial out bytes out' f
             ∙ ap (λ (x : List ℕ). x ++ positions_output l') last_is
             ∙ ap (λ (x : List ℕ). end_output (take_text (run_at l 0 []) t.input) ++ x)
             (ap positions_output book_is ∙ (text_kept l b t.input).listing);
       }
-  shown_after out (Err e) out' w n = tt

@@ -37,7 +37,7 @@ use Rattle.std.proofs.Props.{props}
 use Rattle.model.proofs.Laws.Batch.{after_safe}
 use Rattle.model.proofs.Laws.Grown.{mandates_grown, collections_grown}
 use Rattle.report.specs.Layout.{answer_length, answer_line, answer_fits, last_number, last_answer}
-use Rattle.run.specs.Run.{Run, run_at, clipped_length, clipped, answer_to, line_output, take_text, text_output}
+use Rattle.run.specs.Run.{Run, run_at, clipped_length, clipped, answer_to, after_line, ended, line_output, take_text, text_output}
 use Rattle.report.specs.Cut.{end_from}
 use Rattle.report.proofs.Laws.Cut.{FirstEnd, end_from_at}
 use Rattle.digits.proofs.Laws.Buffer.{pasted_next}
@@ -47,6 +47,27 @@ use Rattle.report.specs.declared.layout.Progress.{Progress}
 use Rattle.text.specs.Text.{Known, LineTaken, LineAnswered, LinesAnswered, piece_fits}
 
 -- ---- what is known of the tables
+
+-- it stays so: an event keeps safe memory safe, and the rows that the indexes cover; so does a line, and one that is answered
+module _ (safe : Bool) (mandates collections : Index) where
+  event_known : (l : Ledger) (e : Event) → Known safe mandates collections l → Known safe mandates collections (after l e)
+  event_known l e w =
+      record {
+        when_safe = λ s. after_safe l e (w.when_safe s);
+        mandates = indexed_kept mandates l.mandates _ l.mandates_used _ w.mandates (mandates_grown l e);
+        collections = indexed_kept collections l.collections _ l.collections_used _ w.collections (collections_grown l e);
+      }
+
+  line_known : (l : Ledger) (a : Result Event Refusal) → Known safe mandates collections l → Known safe mandates collections (after_line l a)
+  line_known l (Ok e) w = event_known l e w
+  line_known l (Err r) w = w
+
+  ended_known : (l : Ledger) (n : ℕ) (line : List ℕ) → Known safe mandates collections l → Known safe mandates collections (ended (run_at l n []) line).book
+  ended_known l n line w = by_more (ltb n last_number)
+    where
+      by_more : (more : Bool) → Known safe mandates collections (cond more (run_at (after_line l (read_line line)) (n + 1) []) (run_at l n [])).book
+      by_more true = line_known l (read_line line) w
+      by_more false = w
 
 -- where a number is named, the lookup may start in the first row that the index has for it
 named_start :
@@ -80,15 +101,9 @@ module _ (safe : Bool) (mandates collections : Index) (l : Ledger) (k : ∥ Know
       (named_start collections l.collections l.collections_used e.a j (names_collection e.kind) collection s (rw same at t) (collections_from e.a))
       d
 
-  -- it stays so: an event keeps safe memory safe, and the rows that the indexes cover
+  -- after an event
   pub known_kept : (l' : Ledger) (e : Event) → l' ≡ after l e → ∥ Known safe mandates collections l' ∥₁
-  known_kept l' e t =
-      ∥∥₁_elim k (Prim.hlevel props)
-      (λ w. ∣ rw t (record {
-        when_safe = λ s. after_safe l e (w.when_safe s);
-        mandates = indexed_kept mandates l.mandates _ l.mandates_used _ w.mandates (mandates_grown l e);
-        collections = indexed_kept collections l.collections _ l.collections_used _ w.collections (collections_grown l e);
-      }) ∣₁)
+  known_kept l' e t = ∥∥₁_elim k (Prim.hlevel props) (λ w. ∣ rw t (event_known safe mandates collections l e w) ∣₁)
 
 -- ---- a line
 
@@ -164,26 +179,29 @@ module _ (text out : List ℕ) where
         inside = omega arith;
       }
 
-  -- one line more, from at to k
+  -- one line more, from at to k; what was known of the tables is known of them after it
   module _ (s : Run) (at k : ℕ) (f : FirstEnd text at k) where
     pub answered_line : (l l' : Ledger) (p r : Progress) (line mid next : List ℕ)
         → AnsweredTo s text out at l p mid
         → line ≡ take (k + 1 - at) (drop at text)
         → LineAnswered l p line mid r l' next
         → AnsweredTo s text out (k + 1) l' r next
+        × ((safe : Bool) (mandates collections : Index) → Known safe mandates collections l → Known safe mandates collections l')
     answered_line l l' p r line mid next t e w =
         let written = text_output s (take at text) in
         let more = line_output (run_at l p.lines []) line in
         let a = answering_line text at k f s l p.lines written line t.answered e l' r.lines w.run in
         let q : text_output s (take (k + 1) text) ≡ written ++ more = a.so_far in
-        let n : length (text_output s (take (k + 1) text)) ≡ length written + length more = ap length q ∙ length-append written more in
-        record {
-          answered = record { now = a.now; so_far = refl };
-          bytes = rw q (pasted_next 0 written out p.written more mid next (omega arith) (sym t.written) t.bytes (rw (zero-add) w.bytes));
-          written = omega (arith, w.written, t.written, n);
-          few = omega (arith, w.written, t.few, ended_short (run_at l p.lines []) line, f.onward);
-          inside = omega (arith, f.inside);
-        }
+        let n : length (text_output s (take (k + 1) text)) ≡ length written + length more = ap length q ∙ length-append written more in (
+          record {
+            answered = record { now = a.now; so_far = refl };
+            bytes = rw q (pasted_next 0 written out p.written more mid next (omega arith) (sym t.written) t.bytes (rw (zero-add) w.bytes));
+            written = omega (arith, w.written, t.written, n);
+            few = omega (arith, w.written, t.few, ended_short (run_at l p.lines []) line, f.onward);
+            inside = omega (arith, f.inside);
+          },
+          λ safe mandates collections known. rw (ap (λ (x : Run). x.book) w.run) (ended_known safe mandates collections l p.lines line known),
+        )
 
   -- no line ends behind the place
   pub answered_end : (s : Run) (at : ℕ) (l : Ledger) (p : Progress) (out' : List ℕ)

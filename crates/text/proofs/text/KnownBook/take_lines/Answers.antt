@@ -14,7 +14,7 @@ loop-end-preserved c =
     record {
       book = c.end_line-progress.ensures.book ∙ here.book;
       same = loans_then _ _ _ here.same c.end_line-progress.ensures.loans;
-      answered = answered_line _ _ _ _ _ (end_from_at _ _ _ (sym c.line_end.ensures ∙ c.in-Some.is)) _ _ _ _ _ _ _ here.answered refl c.end_line-progress.ensures.answered;
+      answered = (answered_line _ _ _ _ _ (end_from_at _ _ _ (sym c.line_end.ensures ∙ c.in-Some.is)) _ _ _ _ _ _ _ here.answered refl c.end_line-progress.ensures.answered).0;
     }
 
 pub returns-clause-answered : goal.returns-clause-answered
