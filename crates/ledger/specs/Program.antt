@@ -12,6 +12,7 @@ use Rattle.report.specs.Layout.{answer_length}
 use Rattle.listing.specs.Listing.{listing_room}
 use Rattle.run.specs.Run.{run_at, take_text, end_bytes, end_output, positions_output, journal_output}
 use Rattle.run.specs.Lines.{answers_of, history_of}
+use Rattle.ledger.specs.Input.{InputMade}
 
 -- ---- the start
 
@@ -52,3 +53,10 @@ journal_of l lines = journal (history_of lines (answers_of l lines))
 pub record Shown (l : Ledger) (bytes : ℕ) (out : List ℕ) : Type 0 where
   pub input : List ℕ
   pub last : take bytes out ≡ end_output (take_text (run_at l 0 []) input) ++ journal_output (journal_of l (answered_lines 0 input))
+
+-- ---- the whole run from l to l', whose text is left: the input that made them is the one that the last bytes show
+
+pub record RunShown (l l' : Ledger) (text : List ℕ) (bytes : ℕ) (out : List ℕ) : Type 0 where
+  pub made : InputMade (run_at l 0 []) l' text
+  pub shown : Shown l bytes out
+  pub same : shown.input ≡ made.taken.input

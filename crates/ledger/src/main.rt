@@ -7,8 +7,8 @@ ghost use Rattle.std.specs.Prelude.{◌≡◌, false, [], ◌+◌, ◌*◌, ◌�
 ghost use Rattle.tables.specs.Ledger.{ledger_of, ledger_in, SameLoans};
 ghost use Rattle.report.specs.Layout.{answer_length};
 ghost use Rattle.run.specs.Run.{run_at, clipped_length};
-ghost use Rattle.ledger.specs.Input.{filled_after, Behind, Given, Turned, InputTaken, InputMade};
-ghost use Rattle.ledger.specs.Program.{Begins, LastRoom, Finished, Shown};
+ghost use Rattle.ledger.specs.Input.{filled_after, Behind, Given, Turned, InputTaken};
+ghost use Rattle.ledger.specs.Program.{Begins, LastRoom, Finished, RunShown};
 
 use listing::ending::end_text;
 use listing::listing::list_positions;
@@ -90,12 +90,7 @@ fn take_input(
     ensures loans { SameLoans book.old book.new }
     ensures taken { InputTaken (run_at (ledger_in book.old) 0 []) (ledger_in book.new) p.new.lines p.new.partial p.new.beyond text.new }
 {
-    *p = Stage {
-        lines: 0,
-        partial: 0,
-        written: 0,
-        beyond: false,
-    };
+    *p = Stage::default();
     for _ in 0..u64::MAX {
         let filled = fill(rt, text, p.partial)?;
         if filled == p.partial {
@@ -133,11 +128,11 @@ fn send(rt: HostRuntime, before: Result<(), StreamFailed>, bytes: &[u8]) -> Resu
     write_whole(rt, bytes)
 }
 
-// Makes what is to be written where the input ends, and writes it if no stream failed; says it if there was more input. Gives its
-// bytes in each case.
+// Makes what is to be written where the input ends, and writes it if no stream failed where it was taken; says it if there was more
+// input. Gives its bytes in each case.
 fn finish(
     rt: HostRuntime,
-    input: Result<(), StreamFailed>,
+    taken: Result<(), StreamFailed>,
     p: Stage,
     book: &BookRef,
     out: &mut [u8],
@@ -146,7 +141,7 @@ fn finish(
     ensures { Finished (ledger_of book.now) p.lines p.partial out.old result out.new }
 {
     let bytes = put_last(p, book, out);
-    let sent = send(rt, input, &out[..bytes]);
+    let sent = send(rt, taken, &out[..bytes]);
     if sent.is_ok() & p.beyond {
         say_past(rt);
     }
@@ -157,12 +152,11 @@ fn finish(
 // and are where no stream failed.
 fn run_by(rt: HostRuntime, book: &mut BookMut, text: &mut [u8; TEXT], out: &mut [u8; OUT]) -> usize
     requires { Begins (ledger_in book.old) }
-    ensures made { InputMade (run_at (ledger_in book.old) 0 []) (ledger_in book.new) text.new }
-    ensures shown { Shown (ledger_in book.old) result out.new }
+    ensures { RunShown (ledger_in book.old) (ledger_in book.new) text.new result out.new }
 {
     let mut p = Stage::default();
-    let input = take_input(rt, &mut p, book, text, out);
-    finish(rt, input, p, &book.view(), out)
+    let taken = take_input(rt, &mut p, book, text, out);
+    finish(rt, taken, p, &book.view(), out)
 }
 
 // Lends the text and the buffer. Why a stream failed was said, and the run ends there.

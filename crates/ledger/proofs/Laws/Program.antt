@@ -1,4 +1,4 @@
--- Laws of specs/Program. To cite: `begins_opened`, `rows_lent`, `listing_taken`, `room_after`, `shown_after`. Assumes nothing.
+-- Laws of specs/Program. To cite: `begins_opened`, `rows_lent`, `listing_taken`, `room_after`, `shown_after`, `run_shown`. Assumes nothing.
 use Rattle.std.proofs.Common.{Ok, Result}
 use mathlib.Core.Path.{◌≡◌, refl, sym, ap, subst, ◌∙◌}
 use mathlib.Core.Bool.{Bool, true}
@@ -32,7 +32,7 @@ use Rattle.report.proofs.Laws.Layout.{length_answer_line}
 use Rattle.listing.proofs.Laws.Listing.{listed_is}
 use Rattle.run.proofs.Laws.Program.{program_kept}
 use Rattle.ledger.specs.Input.{InputTaken}
-use Rattle.ledger.specs.Program.{mandate_rows, collection_rows, Begins, LastRoom, last_output, Finished, Shown}
+use Rattle.ledger.specs.Program.{mandate_rows, collection_rows, Begins, LastRoom, last_output, Finished, Shown, RunShown}
 use Rattle.refusals.specs.declared.Refusal.{Refusal}
 
 -- ---- the start
@@ -128,4 +128,13 @@ module _ (l l' : Ledger) (lines partial : ℕ) (past : Bool) (text : List ℕ) (
             ∙ ap (λ (x : List ℕ). x ++ positions_output l') last_is
             ∙ ap (λ (x : List ℕ). end_output (take_text (run_at l 0 []) t.input) ++ x)
             (ap positions_output book_is ∙ (text_kept l b t.input).listing);
+      }
+
+  pub run_shown : (out : List ℕ) (bytes : ℕ) (out' : List ℕ) → Finished l' lines partial out bytes out' → RunShown l l' text bytes out'
+  unfolding shown_after
+  run_shown out bytes out' f =
+      record {
+        made = record { lines = lines; partial = partial; past = past; taken = t };
+        shown = shown_after out bytes out' f;
+        same = refl;
       }
